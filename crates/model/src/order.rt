@@ -1,7 +1,18 @@
 // Tasks and orders.
+use crate::Answer;
+use crate::Refusal;
 ghost use mathlib.Core.Path.{_≡_};
 ghost use Prim.Native.Nat.{_≤_};
+ghost use Rattle.laws.specs.Choice.{within as inRange};
 ghost use Rattle.model.specs.Limits.{zeroTask, emptyOrder, orderLength};
+ghost use Rattle.model.specs.Rules.{firstBroken, taskRules, rangeRules};
+
+// Both ends are in.
+pub fn within(least: u32, most: u32, x: u32) -> bool
+    ensures { λ r. ⌜ r ≡ inRange least most x ⌝ }
+{
+    if least <= x { x <= most } else { false }
+}
 
 // A rigid sporadic gang: width m, period T, deadline D, run time C.
 pub struct Task {
@@ -30,6 +41,25 @@ impl Task {
             deadline: 0,
             run: 0,
         }
+    }
+
+    // 7 to 10 of this task, in turn.
+    pub fn judge(self, processors: u32, number: u16) -> Answer
+        ensures { λ r. ⌜ r ≡ firstBroken 0 (taskRules processors self number) ⌝ }
+    {
+        if !within(1, processors, self.width) {
+            return Answer::Refused(Refusal::Width(number));
+        }
+        if !within(1, Task::MOST_PERIOD, self.period) {
+            return Answer::Refused(Refusal::Period(number));
+        }
+        if !within(1, self.period, self.deadline) {
+            return Answer::Refused(Refusal::Deadline(number));
+        }
+        if !within(1, self.deadline, self.run) {
+            return Answer::Refused(Refusal::RunTime(number));
+        }
+        Answer::Done(0)
     }
 }
 
@@ -64,5 +94,24 @@ impl Order {
         ensures { λ r. ⌜ r ≡ orderLength tasks ⌝ }
     {
         Order::HEADER_BYTES + Task::BYTES * tasks
+    }
+
+    // 7 to 10, task by task.
+    pub fn judge(self) -> Answer
+        requires { ⌜ self .tasks ≤ 32 ⌝ }
+        ensures { λ r. ⌜ r ≡ firstBroken 0 (rangeRules (self .processors) (self .table) (self .tasks)) ⌝ }
+    {
+        let table = self.table;
+        let tasks = self.tasks as usize;
+        let mut i: usize = 0;
+        while i < tasks {
+            let task = table[i];
+            let judged = task.judge(self.processors, i as u16);
+            if let Answer::Refused(cause) = judged {
+                return Answer::Refused(cause);
+            }
+            i += 1;
+        }
+        Answer::Done(0)
     }
 }
