@@ -2,6 +2,7 @@ use borrow.Author.Needs.{needs}
 use borrow.Author.Tests.{not-true, not-false}
 use mathlib.Core.Path.{_≡_, sym, _∙_}
 use mathlib.Core.Bool.{true}
+use Rattle.laws.specs.Choice.{within as inRange}
 use Rattle.model.specs.Limits.{mostPeriod}
 use Rattle.model.specs.Rules.{firstBroken}
 use Rattle.model.proofs.order.Task.judge.Statement.{statement}
