@@ -11,5 +11,5 @@ pub use build::Member;
 pub use build::Partition;
 pub use build::Release;
 pub use order::Order;
-pub use order::within;
 pub use order::Task;
+pub use order::within;

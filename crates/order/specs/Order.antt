@@ -8,7 +8,13 @@ use Rattle.laws.specs.Choice.{within}
 use Rattle.laws.specs.Joined.{joined, filled}
 use Rattle.bits.specs.Field.{field}
 use Rattle.bits.specs.Packed.{Slot, slot, bytesOf}
-use Rattle.model.specs.Kinds.{Task, Order, Reading, Answer, Done, Refused, Refusal, OrderShort, OrderVersion, Processors, Tasks, OrderLength, HeaderSpare, TaskSpare}
+use Rattle.model.specs.declared.order.Task.{Task}
+use Rattle.model.specs.declared.order.Order.{Order}
+use Rattle.model.specs.declared.answer.Reading.{Reading}
+use Rattle.model.specs.declared.answer.Answer.{Answer}
+use Rattle.model.specs.declared.answer.Answer.the-variants.{Done, Refused}
+use Rattle.model.specs.declared.answer.Refusal.{Refusal}
+use Rattle.model.specs.declared.answer.Refusal.the-variants.{OrderShort, OrderVersion, Processors, Tasks, OrderLength, HeaderSpare, TaskSpare}
 use Rattle.model.specs.Limits.{mostTasks, mostProcessors, orderLength, zeroTask, taskOf, emptyOrder}
 use Rattle.model.specs.Rules.{Rule, rule, firstBroken, rangeRules}
 use Rattle.order.specs.declared.Header.{Header}

@@ -2,7 +2,7 @@ use borrow.Author.Needs.{needs}
 use Prim.Native.Nat.{_≤_, _-_}
 use mathlib.Core.Path.{_≡_, sym, _∙_}
 use native.Mathlib.Nat.{le-antisymm}
-use Rattle.model.specs.Kinds.{Task, Order}
+use Rattle.model.specs.Kinds.{Order}
 use Rattle.model.specs.Rules.{allHold, rangeRules}
 use Rattle.model.proofs.Rules.{hold-done, range-none, range-more, range-stop}
 use Rattle.model.proofs.order.Order.judge.Statement.{statement}
