@@ -1,12 +1,13 @@
 -- Laws of fields written: lengths, a number's first byte, what reading gives back, and what writing what was read gives back.
 use mathlib.Core.Path.{_≡_, refl, sym, ap, _∙_, subst}
-use mathlib.Core.List.{List, [], _∷_, _++_, append-assoc}
+use mathlib.Core.List.{List, [], _∷_, _++_, append-assoc, append-nil}
 use Prim.Native.Nat.{ℕ, zero, suc, _+_, _-_, _*_, _/_, _%_, _^_, _≤_, _<_}
-use native.Mathlib.Nat.{zero-add, sub-zero, add-mul, mul-assoc, mul-comm, mul-le-mul-right, div-one, div-div-eq-div-mul, pow-suc}
+use native.Mathlib.Nat.{add-zero, add-suc, zero-add, sub-zero, add-mul, mul-assoc, mul-comm, mul-le-mul-right, div-one, div-div-eq-div-mul, pow-suc}
 use native.Mathlib.Numerals.{add-one}
 use native.Mathlib.Omega.{arith}
 use lib.ListN.{length, getD, set, take, drop, length-append, length-drop, take-append-drop}
 use lib.Seq.{getD-at, getD-drop, take-suc, set-at, append-snoc, length-take-le}
+use lib.Arith.{digits-div}
 use lib.Pow.{pow-add, high, low}
 use Rattle.bits.specs.Field.{field}
 use Rattle.bits.specs.Packed.{packed, Slot, slot, widthOf, numberOf, bytesOf, Fit, slotsAt, Bytes}
@@ -28,6 +29,29 @@ packed-first zero number = rw div-one
 packed-first (suc count) number =
     let e : number / 256 / 256 ^ count ≡ number / 256 ^ suc count = div-div-eq-div-mul number 256 (256 ^ count) ∙ ap (λ (x : ℕ). number / x) (mul-comm 256 (256 ^ count) ∙ sym (pow-suc 256 count)) in
     rw (packed-first count (number / 256), e)
+
+-- what stands above the bytes is not seen
+packed-low : (count high low : ℕ) → packed count (high * 256 ^ count + low) ≡ packed count low
+unfolding packed
+packed-low zero high low = refl
+packed-low (suc count) high low =
+    let e : high * 256 ^ suc count ≡ high * 256 ^ count * 256 = ap (high *_) (pow-suc 256 count) ∙ sym (mul-assoc high (256 ^ count) 256) in
+    let q : (high * 256 ^ suc count + low) / 256 ≡ high * 256 ^ count + low / 256 = rw e (omega arith) in
+    let r : (high * 256 ^ suc count + low) % 256 ≡ low % 256 = rw e (omega arith) in
+    rw (q, r, packed-low count high (low / 256))
+
+packed-add : (a b number : ℕ) → packed (a + b) number ≡ packed a (number / 256 ^ b) ++ packed b number
+unfolding packed
+packed-add a zero number = rw (add-zero, div-one, append-nil)
+packed-add a (suc b) number =
+    let e : number / 256 / 256 ^ b ≡ number / 256 ^ suc b = div-div-eq-div-mul number 256 (256 ^ b) ∙ ap (λ (x : ℕ). number / x) (mul-comm 256 (256 ^ b) ∙ sym (pow-suc 256 b)) in
+    rw (add-suc, packed, packed-add a b (number / 256), e, append-assoc)
+
+-- a number in two parts
+pub packed-two : (a b high low : ℕ) → low < 256 ^ b → packed (a + b) (high * 256 ^ b + low) ≡ packed a high ++ packed b low
+packed-two a b high low small =
+    let q : (high * 256 ^ b + low) / 256 ^ b ≡ high = digits-div high small in
+    packed-add a b (high * 256 ^ b + low) ∙ rw (q, packed-low b high low)
 
 -- the bytes of a number, read as one field
 pub field-packed : (count number : ℕ) → number < 256 ^ count → field (packed count number) 0 (8 * count) ≡ number

@@ -1,0 +1,55 @@
+use borrow.Author.Needs.{needs}
+use Prim.Native.Nat.{ℕ, _+_, _*_}
+use mathlib.Core.Path.{_≡_, ap, _∙_}
+use mathlib.Core.List.{_++_}
+use lib.ListN.{drop}
+use denote.Ref.{now}
+use Rattle.bits.specs.Packed.{packed}
+use Rattle.order_out.proofs.Bytes.{header-bytes}
+use Rattle.order_out.proofs.put_header.Statement.{statement}
+use Rattle.order_out.proofs.put_header.Tie as tie
+
+wide-requires : tie.Need-wide-requires
+wide-requires c κs = search needs
+
+add-number : tie.Need-add-number
+add-number c = search needs
+
+mul-number : tie.Need-mul-number
+mul-number c = search needs
+
+wide-requires-2 : tie.Need-wide-requires-2
+wide-requires-2 c κs = search needs
+
+add-number-2 : tie.Need-add-number-2
+add-number-2 c = search needs
+
+mul-number-2 : tie.Need-mul-number-2
+mul-number-2 c = search needs
+
+put-number-requires : tie.Need-put-number-requires
+put-number-requires c κs = search needs
+
+same-length : tie.Need-same-length
+same-length c = search needs
+
+returns : tie.Need-returns
+returns c =
+    let w = c .before .before .before .before in
+    let a = w .before .before .before .args in
+    let number : ((128 + w .before .wide .result) * 64 + w .wide2 .result) * 128 ≡ ((128 + a .processors) * 64 + a .tasks) * 128 = rw (w .before .wide .ensures, w .wide2 .ensures) in
+    c .before .before .put-number .ensures ∙ ap (λ (n : ℕ). packed 3 n ++ drop 3 (now (a .out))) number ∙ rw (header-bytes (a .processors) (a .tasks))
+
+pub put-header-spec : {M : Type 1} → statement M
+put-header-spec =
+    tie.close
+    (tie.spec
+    wide-requires
+    add-number
+    mul-number
+    wide-requires-2
+    add-number-2
+    mul-number-2
+    put-number-requires
+    same-length
+    returns)
