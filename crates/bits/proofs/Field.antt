@@ -1,8 +1,8 @@
 -- Laws of `field`: its bound, its parts, whole bytes in front of it, bytes behind it, and whole bytes read.
-use mathlib.Core.Path.{_≡_, refl, sym, ap, _∙_, subst}
-use mathlib.Core.List.{List, [], _∷_, _++_}
+use mathlib.Core.Path.{_≡_, refl, sym, ap, _∙_}
+use mathlib.Core.List.{List, _++_}
 use Prim.Native.Nat.{ℕ, zero, suc, _+_, _-_, _*_, _/_, _%_, _^_, _≤_, _<_}
-use native.Mathlib.Nat.{mod-lt, add-suc, add-zero, add-assoc, mul-assoc, mod-one, pow-suc, pow-zero, lt-of-lt-of-le}
+use native.Mathlib.Nat.{add-suc, add-zero, add-assoc, mul-assoc, mod-one, pow-suc, pow-zero, lt-of-lt-of-le}
 use native.Mathlib.Numerals.{add-one}
 use native.Mathlib.Omega.{arith}
 use lib.ListN.{length, getD, drop, List·getD-append}

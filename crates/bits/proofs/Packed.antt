@@ -1,5 +1,5 @@
 -- Laws of fields written: lengths, a number's first byte, what reading gives back, and what writing what was read gives back.
-use mathlib.Core.Path.{_≡_, refl, sym, ap, _∙_, subst}
+use mathlib.Core.Path.{_≡_, refl, sym, ap, _∙_}
 use mathlib.Core.List.{List, [], _∷_, _++_, append-assoc, append-nil}
 use Prim.Native.Nat.{ℕ, zero, suc, _+_, _-_, _*_, _/_, _%_, _^_, _≤_, _<_}
 use native.Mathlib.Nat.{add-zero, add-suc, zero-add, sub-zero, add-mul, mul-assoc, mul-comm, mul-le-mul-right, div-one, div-div-eq-div-mul, pow-suc}
@@ -11,7 +11,7 @@ use lib.Arith.{digits-div}
 use lib.Pow.{pow-add, high, low}
 use Rattle.bits.specs.Field.{field}
 use Rattle.bits.specs.Packed.{packed, Slot, slot, widthOf, numberOf, bytesOf, Fit, slotsAt, Bytes}
-use Rattle.bits.proofs.Field.{field-none, field-lt, field-add, field-within, field-append, field-bytes-more}
+use Rattle.bits.proofs.Field.{field-none, field-add, field-within, field-append, field-bytes-more}
 
 pub length-packed : (count number : ℕ) → length (packed count number) ≡ count
 unfolding packed

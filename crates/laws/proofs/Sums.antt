@@ -1,12 +1,11 @@
 -- Laws of sums and of the largest, by number.
-use mathlib.Core.Path.{_≡_, refl, sym, ap, _∙_}
-use mathlib.Core.Bool.{Bool, true, false}
+use mathlib.Core.Path.{_≡_, refl, ap}
 use mathlib.Core.Logic.{⊎-elim}
 use Prim.Native.Nat.{ℕ, zero, suc, _+_, _-_, _≤_, _<_, max}
-use native.Mathlib.Nat.{add-suc, add-zero, eq-or-lt-of-le}
+use native.Mathlib.Nat.{eq-or-lt-of-le}
 use native.Mathlib.Numerals.{add-one}
 use native.Mathlib.Omega.{arith}
-use Rattle.laws.specs.Sums.{only, sum, largest}
+use Rattle.laws.specs.Sums.{sum, largest}
 
 pub sum-none : (f : ℕ → ℕ) → sum f 0 ≡ 0
 unfolding sum

@@ -1,15 +1,14 @@
 -- Laws of rules in order: parts one after the other, a scan index by index, and what done and refused mean.
-use mathlib.Core.Path.{_≡_, refl, sym, ap, _∙_, subst}
+use mathlib.Core.Path.{_≡_, refl, sym, ap, _∙_}
 use mathlib.Core.Bool.{Bool, true, false}
 use mathlib.Core.List.{List, [], _∷_, _++_, append-assoc}
-use mathlib.Core.Logic.{_↔_}
 use Prim.Native.Nat.{ℕ, zero, suc, _+_, _<_}
 use native.Mathlib.Omega.{arith}
 use Rattle.laws.specs.Choice.{pick}
 use Rattle.laws.specs.Joined.{joined}
 use Rattle.laws.proofs.Choice.{within-true, true-within}
 use Rattle.laws.proofs.Joined.{joined-none, joined-more, joined-at}
-use Rattle.model.specs.Kinds.{Task, Answer, Done, Refused, Refusal}
+use Rattle.model.specs.Kinds.{Task, Done, Refused, Refusal}
 use Rattle.model.specs.Limits.{taskOf}
 use Rattle.model.specs.Rules.{Rule, rule, firstBroken, allHold, BrokenFirst, DoneWhenAllHold, RefusedForItsCause, taskRules, rangeRules, TaskInRange}
 
@@ -31,6 +30,9 @@ module _ (count : ℕ) where
           pick b (firstBroken count rules) (Refused (r .refusal)) ≡ Done other → (r .holds ≡ true) × allHold rules
       go rest true h e = (h, rest e)
       go rest false h e = never e
+
+  pub done-count : (rules : List Rule) {other : ℕ} → firstBroken count rules ≡ Done other → other ≡ count
+  done-count rules e = let d = hold-done rules (done-hold rules e) in cc
 
   -- what holds is passed
   pub pass : (a b : List Rule) → allHold a → firstBroken count (a ++ b) ≡ firstBroken count b

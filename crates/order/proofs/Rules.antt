@@ -1,12 +1,10 @@
 -- Laws of the order's rules: the scan of the spare bits, the parts in turn, and what an accepted header says.
-use mathlib.Core.Path.{_≡_, refl, sym, ap, _∙_}
-use mathlib.Core.Bool.{Bool, true, false}
-use mathlib.Core.List.{List, [], _∷_, _++_}
-use Prim.Native.Nat.{ℕ, _+_, _*_, _≤_, _<_}
+use mathlib.Core.Path.{_≡_}
+use mathlib.Core.List.{List, [], _∷_}
+use Prim.Native.Nat.{ℕ, _+_, _≤_, _<_}
 use lib.ListN.{length}
-use lib.Dec.{leb, eqb}
+use lib.Dec.{eqb}
 use borrow.Author.Tests.{eq-eqb, ne-eqb, eqb-true, leb-true}
-use Rattle.laws.specs.Joined.{joined}
 use Rattle.bits.proofs.Field.{field-lt}
 use Rattle.laws.proofs.Choice.{within-true}
 use Rattle.model.specs.declared.answer.Answer.{Answer}
@@ -15,9 +13,9 @@ use Rattle.model.specs.declared.answer.Refusal.{Refusal}
 use Rattle.model.specs.declared.answer.Refusal.the-variants.{TaskSpare}
 use Rattle.model.specs.Limits.{mostTasks, mostProcessors, orderLength}
 use Rattle.model.specs.Rules.{Rule, rule, firstBroken, allHold, rangeRules}
-use Rattle.model.proofs.Rules.{done-hold, hold-done, pass, stop, scan-none, scan-more, scan-stop, scan-at, hold-front, hold-rest, hold-append}
+use Rattle.model.proofs.Rules.{done-hold, hold-done, pass, stop, scan-none, scan-more, scan-stop, scan-at, hold-front}
 use Rattle.order.specs.declared.Header.{Header}
-use Rattle.order.specs.Order.{headerOf, taskSpareAt, orderAt, headerRules, spareRules, layoutRules, orderRules, refusedReading, readingOf, readOrder}
+use Rattle.order.specs.Order.{headerOf, taskSpareAt, orderAt, headerRules, spareRules, layoutRules, orderRules, refusedReading, readOrder}
 
 -- the scan of the tasks' spare bits
 module _ (s : List ℕ) where

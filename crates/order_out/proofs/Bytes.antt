@@ -1,11 +1,11 @@
 -- Laws of the order's bytes as the writer computes them.
-use mathlib.Core.Path.{_≡_, refl, sym, ap, _∙_}
-use mathlib.Core.List.{List, [], _∷_, _++_}
-use Prim.Native.Nat.{ℕ, _+_, _*_, _/_, _%_, _^_, _≤_, _<_}
+use mathlib.Core.Path.{_≡_, ap, _∙_}
+use mathlib.Core.List.{List, [], _++_}
+use Prim.Native.Nat.{ℕ, _+_, _*_, _/_, _%_}
 use native.Mathlib.Omega.{arith}
 use lib.ListN.{length, length-append}
 use Rattle.laws.proofs.Joined.{joined-none, joined-more, length-joined}
-use Rattle.bits.specs.Packed.{packed, slot, widthOf, numberOf, bytesOf}
+use Rattle.bits.specs.Packed.{packed, widthOf, numberOf, bytesOf}
 use Rattle.bits.proofs.Packed.{packed-two, length-bytes}
 use Rattle.model.specs.declared.order.Task.{Task}
 use Rattle.model.specs.declared.order.Order.{Order}

@@ -1,13 +1,11 @@
 -- Laws of the writer's rules: what passed columns say, and the parts in turn.
-use mathlib.Core.Path.{_≡_, refl, sym, ap, _∙_, subst}
-use mathlib.Core.Bool.{Bool, true, false}
-use mathlib.Core.List.{List, [], _∷_, _++_}
+use mathlib.Core.Path.{_≡_, sym, _∙_}
+use mathlib.Core.List.{List}
 use Prim.Native.Nat.{ℕ, _≤_, _<_}
 use native.Mathlib.Omega.{arith}
 use lib.ListN.{length}
-use lib.Dec.{leb, eqb}
+use lib.Dec.{eqb}
 use borrow.Author.Tests.{eqb-true, leb-true, le-leb, lt-leb}
-use Rattle.laws.specs.Choice.{pick}
 use Rattle.laws.proofs.Choice.{both, within-true}
 use Rattle.model.specs.declared.order.Task.{Task}
 use Rattle.model.specs.declared.order.Order.{Order}
@@ -17,7 +15,7 @@ use Rattle.model.specs.declared.answer.Refusal.the-variants.{Output}
 use Rattle.model.specs.Limits.{mostTasks, mostProcessors, orderLength, taskOf}
 use Rattle.model.specs.Rules.{Rule, firstBroken, allHold, rangeRules, TaskInRange}
 use Rattle.model.proofs.Rules.{done-hold, pass, stop, range-at, refused-broken, broken-refused}
-use Rattle.order_out.specs.Write.{columnOrder, sameLengths, columnRules, roomRules, writeRules, writeAnswer, TaskFits, OrderFits, SameLengths}
+use Rattle.order_out.specs.Write.{columnOrder, columnRules, roomRules, writeRules, writeAnswer, TaskFits, OrderFits, SameLengths}
 
 -- what passed columns say
 pub record ColumnsPassed (processors : ℕ) (widths periods deadlines runs : List ℕ) : Type 0 where
@@ -95,3 +93,7 @@ module _ (processors : ℕ) (widths periods deadlines runs : List ℕ) (room : �
   write-room e r =
       pass size columns _ (done-hold 0 columns e)
       ∙ pass size (rangeRules processors (order .table) (length widths)) _ (done-hold 0 (rangeRules processors (order .table) (length widths)) r)
+
+pub room-fits : (size room : ℕ) → allHold (roomRules size room) → size ≤ room
+unfolding roomRules allHold
+room-fits size room all = leb-true _ _ (all .0)

@@ -1,6 +1,5 @@
 -- The jumping search for the smallest t with f t ≤ t, where f is monotone: from t on to f t.
 use mathlib.Core.Path.{_≡_}
-use mathlib.Core.Bool.{Bool, true, false}
 use Prim.Native.Nat.{ℕ, _≤_, _<_}
 use lib.Dec.{leb}
 use native.Mathlib.Decide.{decLe}

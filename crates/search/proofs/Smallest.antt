@@ -3,9 +3,9 @@ use mathlib.Core.Path.{_≡_, refl, sym, ap, _∙_, subst}
 use mathlib.Core.Bool.{Bool, true, false}
 use mathlib.Core.Logic.{⊎-elim}
 use Prim.Native.Nat.{ℕ, zero, suc, _+_, _-_, _≤_, _<_}
-use native.Mathlib.Nat.{eq-or-lt-of-le, add-suc, suc-add}
+use native.Mathlib.Nat.{eq-or-lt-of-le}
 use native.Mathlib.Omega.{arith}
-use Rattle.search.specs.Smallest.{Found, At, Nothing, firstOf, smallest, IsSmallest, Answers}
+use Rattle.search.specs.Smallest.{Found, At, Nothing, firstOf, smallest, Answers}
 
 module _ (p : ℕ → Bool) where
   here : (lo k : ℕ) → p lo ≡ true → firstOf p lo (suc k) ≡ At lo
