@@ -2,15 +2,16 @@
 use mathlib.Core.Path.{_≡_, refl, sym, ap, _∙_}
 use mathlib.Core.Bool.{Bool, true, false}
 use mathlib.Core.List.{List, [], _∷_, _++_, append-assoc}
-use Prim.Native.Nat.{ℕ, zero, suc, _+_, _<_}
+use Prim.Native.Nat.{ℕ, zero, suc, _+_, _≤_, _<_}
 use native.Mathlib.Omega.{arith}
 use Rattle.laws.specs.Choice.{pick}
 use Rattle.laws.specs.Joined.{joined}
 use Rattle.laws.proofs.Choice.{within-true, true-within}
 use Rattle.laws.proofs.Joined.{joined-none, joined-more, joined-at}
-use Rattle.model.specs.Kinds.{Task, Done, Refused, Refusal}
+use borrow.Author.Tests.{le-leb, lt-leb, leb-true}
+use Rattle.model.specs.Kinds.{Task, Done, Refused, Refusal, Output}
 use Rattle.model.specs.Limits.{taskOf}
-use Rattle.model.specs.Rules.{Rule, rule, firstBroken, allHold, BrokenFirst, DoneWhenAllHold, RefusedForItsCause, taskRules, rangeRules, TaskInRange}
+use Rattle.model.specs.Rules.{Rule, rule, firstBroken, allHold, BrokenFirst, DoneWhenAllHold, RefusedForItsCause, taskRules, rangeRules, roomRules, TaskInRange}
 
 pub never : {A : Type 0} {cause : Refusal} {count : ℕ} → Refused cause ≡ Done count → A
 never e = let z : _≡_ {A = ℕ} 0 1 = cc in absurd (omega arith)
@@ -149,3 +150,20 @@ module _ (processors : ℕ) (table : List Task) where
   pub range-all : (tasks : ℕ) → ((i : ℕ) → i < tasks → TaskInRange processors (taskOf table i)) → allHold (rangeRules processors table tasks)
   unfolding rangeRules
   range-all tasks ranges = scan-all each tasks (λ i l. range-hold processors (taskOf table i) i (ranges i l))
+
+-- a count plays no part in a refusal
+pub any-count : (count other : ℕ) (rules : List Rule) (refusal : Refusal) → firstBroken count rules ≡ Refused refusal → firstBroken other rules ≡ Refused refusal
+any-count count other rules refusal e = broken-refused other rules refusal (refused-broken count rules refusal e)
+
+-- 12
+pub room-stop : (count size room : ℕ) → room < size → firstBroken count (roomRules size room) ≡ Refused Output
+unfolding roomRules firstBroken
+room-stop count size room short = rw (lt-leb _ _ short)
+
+pub room-on : (count size room : ℕ) → size ≤ room → firstBroken count (roomRules size room) ≡ Done count
+unfolding roomRules firstBroken
+room-on count size room fits = rw (le-leb _ _ fits)
+
+pub room-fits : (size room : ℕ) → allHold (roomRules size room) → size ≤ room
+unfolding roomRules allHold
+room-fits size room all = leb-true _ _ (all .0)

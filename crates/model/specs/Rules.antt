@@ -1,5 +1,6 @@
 -- Rules in document order, and the answer that they give: the first broken one refuses.
 use Prim.Native.Nat.{ℕ, _≤_, _<_}
+use lib.Dec.{leb}
 use lib.ListN.{length}
 use mathlib.Core.Path.{_≡_}
 use mathlib.Core.Bool.{Bool, true, false}
@@ -7,7 +8,7 @@ use mathlib.Core.List.{List, [], _∷_, _++_}
 use mathlib.Core.Logic.{_↔_}
 use Rattle.laws.specs.Choice.{pick, within}
 use Rattle.laws.specs.Joined.{joined}
-use Rattle.model.specs.Kinds.{Task, Order, Answer, Done, Refused, Refusal, Width, Period, Deadline, RunTime}
+use Rattle.model.specs.Kinds.{Task, Order, Answer, Done, Refused, Refusal, Width, Period, Deadline, RunTime, Output}
 use Rattle.model.specs.Limits.{mostTasks, mostProcessors, mostPeriod, zeroTask, taskOf}
 
 -- a rule that holds or not, and the refusal where it does not
@@ -55,6 +56,10 @@ taskRules processors t i =
 -- "then task by task 7 to 10"
 unfoldable pub rangeRules : ℕ → List Task → ℕ → List Rule
 rangeRules processors table tasks = joined (λ i. taskRules processors (taskOf table i) i) tasks
+
+-- 12: "output shorter than the order or build"
+unfoldable pub roomRules : ℕ → ℕ → List Rule
+roomRules size room = rule (leb size room) Output ∷ []
 
 -- what 7 to 10 ask of a task
 pub record TaskInRange (processors : ℕ) (t : Task) : Type 0 where

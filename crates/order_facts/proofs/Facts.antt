@@ -11,13 +11,13 @@ use Rattle.model.specs.declared.answer.Answer.{Answer}
 use Rattle.model.specs.declared.answer.Answer.the-variants.{Done, Refused}
 use Rattle.model.specs.Answer.{outputAfter}
 use Rattle.model.specs.Limits.{mostTasks, orderLength, zeroTask}
-use Rattle.model.specs.Rules.{Rule, firstBroken, allHold, rangeRules, WithinLimits}
+use Rattle.model.specs.Rules.{Rule, firstBroken, allHold, rangeRules, roomRules, WithinLimits}
 use Rattle.model.proofs.Output.{after-done, only-counted-front}
-use Rattle.model.proofs.Rules.{done-hold, done-count, refused-broken, broken-refused, hold-front, hold-rest, range-at}
+use Rattle.model.proofs.Rules.{done-hold, done-count, refused-broken, broken-refused, hold-front, hold-rest, range-at, room-fits}
 use Rattle.order.specs.Order.{orderBytes, orderAt, orderRules, readingOf, readOrder}
-use Rattle.order_out.specs.Write.{columnTask, columnOrder, columnRules, roomRules, writeRules, writeAnswer, Writes}
+use Rattle.order_out.specs.Write.{columnTask, columnOrder, columnRules, writeRules, writeAnswer, Writes}
 use Rattle.order_out.proofs.Bytes.{length-order}
-use Rattle.order_out.proofs.Rules.{ColumnsPassed, columns-passed, room-fits}
+use Rattle.order_out.proofs.Rules.{ColumnsPassed, columns-passed}
 use Rattle.order_facts.specs.Claims.{ReadingGivesBack, BytesReadBack, AcceptedExactly, AcceptedWithinLimits, ReadRefusedForItsCause, WriteRefusedForItsCause, RefusedReadsZero, WritesOnlyCountedFront, ReadingUnique, WritingUnique}
 use Rattle.order_facts.proofs.Back.{bytes-read-back}
 use Rattle.order_facts.proofs.Forth.{bytes-are, within-limits}

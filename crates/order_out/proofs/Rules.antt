@@ -1,21 +1,20 @@
 -- Laws of the writer's rules: what passed columns say, and the parts in turn.
 use mathlib.Core.Path.{_≡_, sym, _∙_}
 use mathlib.Core.List.{List}
-use Prim.Native.Nat.{ℕ, _≤_, _<_}
+use Prim.Native.Nat.{ℕ, _≤_}
 use native.Mathlib.Omega.{arith}
 use lib.ListN.{length}
 use lib.Dec.{eqb}
-use borrow.Author.Tests.{eqb-true, leb-true, le-leb, lt-leb}
+use borrow.Author.Tests.{eqb-true}
 use Rattle.laws.proofs.Choice.{both, within-true}
 use Rattle.model.specs.declared.order.Task.{Task}
 use Rattle.model.specs.declared.order.Order.{Order}
 use Rattle.model.specs.declared.answer.Answer.the-variants.{Done, Refused}
 use Rattle.model.specs.declared.answer.Refusal.{Refusal}
-use Rattle.model.specs.declared.answer.Refusal.the-variants.{Output}
 use Rattle.model.specs.Limits.{mostTasks, mostProcessors, orderLength, taskOf}
-use Rattle.model.specs.Rules.{Rule, firstBroken, allHold, rangeRules, TaskInRange}
-use Rattle.model.proofs.Rules.{done-hold, pass, stop, range-at, refused-broken, broken-refused}
-use Rattle.order_out.specs.Write.{columnOrder, columnRules, roomRules, writeRules, writeAnswer, TaskFits, OrderFits, SameLengths}
+use Rattle.model.specs.Rules.{Rule, firstBroken, allHold, rangeRules, roomRules, TaskInRange}
+use Rattle.model.proofs.Rules.{done-hold, pass, stop, range-at, any-count}
+use Rattle.order_out.specs.Write.{columnOrder, columnRules, writeRules, writeAnswer, TaskFits, OrderFits, SameLengths}
 
 -- what passed columns say
 pub record ColumnsPassed (processors : ℕ) (widths periods deadlines runs : List ℕ) : Type 0 where
@@ -53,18 +52,6 @@ order-fits o few tasks all =
       each = λ i below. range-fits (o .processors) (taskOf (o .table) i) few (range-at (o .processors) (o .table) (o .tasks) all i below);
     }
 
-pub room-stop : (count size room : ℕ) → room < size → firstBroken count (roomRules size room) ≡ Refused Output
-unfolding roomRules firstBroken
-room-stop count size room short = rw (lt-leb _ _ short)
-
-pub room-on : (count size room : ℕ) → size ≤ room → firstBroken count (roomRules size room) ≡ Done count
-unfolding roomRules firstBroken
-room-on count size room fits = rw (le-leb _ _ fits)
-
--- a count plays no part in a refusal
-pub any-count : (count other : ℕ) (rules : List Rule) (refusal : Refusal) → firstBroken count rules ≡ Refused refusal → firstBroken other rules ≡ Refused refusal
-any-count count other rules refusal e = broken-refused other rules refusal (refused-broken count rules refusal e)
-
 -- the writer's branches
 module _ (processors : ℕ) (widths periods deadlines runs : List ℕ) (room : ℕ) where
   abbrev columns : List Rule
@@ -93,7 +80,3 @@ module _ (processors : ℕ) (widths periods deadlines runs : List ℕ) (room : �
   write-room e r =
       pass size columns _ (done-hold 0 columns e)
       ∙ pass size (rangeRules processors (order .table) (length widths)) _ (done-hold 0 (rangeRules processors (order .table) (length widths)) r)
-
-pub room-fits : (size room : ℕ) → allHold (roomRules size room) → size ≤ room
-unfolding roomRules allHold
-room-fits size room all = leb-true _ _ (all .0)

@@ -4,16 +4,16 @@ use mathlib.Core.Path.{_≡_}
 use mathlib.Core.Bool.{Bool, false}
 use mathlib.Core.List.{List, [], _∷_, _++_}
 use lib.ListN.{length, getD}
-use lib.Dec.{leb, eqb}
+use lib.Dec.{eqb}
 use Rattle.laws.specs.Choice.{pick, within}
 use Rattle.laws.specs.Joined.{filled}
 use Rattle.model.specs.declared.order.Task.{Task}
 use Rattle.model.specs.declared.order.Order.{Order}
 use Rattle.model.specs.declared.answer.Answer.{Answer}
-use Rattle.model.specs.declared.answer.Refusal.the-variants.{Processors, Tasks, Output, Columns}
+use Rattle.model.specs.declared.answer.Refusal.the-variants.{Processors, Tasks, Columns}
 use Rattle.model.specs.Limits.{mostTasks, mostProcessors, orderLength, zeroTask, taskOf}
 use Rattle.model.specs.Answer.{outputAfter}
-use Rattle.model.specs.Rules.{Rule, rule, firstBroken, rangeRules}
+use Rattle.model.specs.Rules.{Rule, rule, firstBroken, rangeRules, roomRules}
 use Rattle.order.specs.Order.{orderBytes}
 
 -- the task that the columns have at i
@@ -41,10 +41,6 @@ columnRules processors widths periods deadlines runs =
     ∷ rule (within 1 mostProcessors processors) Processors
     ∷ rule (within 1 mostTasks widths) Tasks
     ∷ []
-
--- "12: output shorter than the order"
-unfoldable pub roomRules : ℕ → ℕ → List Rule
-roomRules size room = rule (leb size room) Output ∷ []
 
 -- "13, 3, 4, then task by task 7 to 10, then 12"
 unfoldable pub writeRules : ℕ → (widths periods deadlines runs : List ℕ) → ℕ → List Rule

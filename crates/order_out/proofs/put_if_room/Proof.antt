@@ -7,7 +7,7 @@ use Rattle.model.specs.declared.answer.Answer.the-variants.{Done}
 use Rattle.model.specs.declared.answer.Refusal.the-variants.{Output}
 use Rattle.model.proofs.Output.{after-done, after-refused}
 use Rattle.order.specs.Order.{orderBytes}
-use Rattle.order_out.proofs.Rules.{room-stop, room-on}
+use Rattle.model.proofs.Rules.{room-stop, room-on}
 use Rattle.order_out.proofs.put_if_room.Statement.{statement}
 use Rattle.order_out.proofs.put_if_room.Tie as tie
 
