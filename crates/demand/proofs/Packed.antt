@@ -1,5 +1,5 @@
 -- The packed members: the work that they ask, packed one by one, and the test over them is the test over the table.
-use mathlib.Core.Path.{_≡_, refl, sym, ap, ap₂, _∙_, subst, subst⁻¹}
+use mathlib.Core.Path.{_≡_, refl, sym, ap, ap₂, _∙_, subst, subst⁻¹, fun-ext}
 use mathlib.Core.List.{List}
 use mathlib.Core.Bool.{Bool, true, false}
 use Prim.Native.Nat.{ℕ, _+_, _-_, _*_, _≤_, _<_}
@@ -11,13 +11,13 @@ use lib.Seq.{getD-set-same, getD-set-other}
 use Rattle.laws.proofs.Sums.{sum-le, sum-same, sum-none, sum-more}
 use Rattle.laws.proofs.Picked.{sum-most}
 use Rattle.demand.specs.Kinds.{Task}
-use Rattle.demand.specs.Priority.{higher}
+use Rattle.demand.specs.Priority.{deadlineOf, higher}
 use Rattle.demand.specs.Releases.{periodOf, costOf, releasesBy}
-use Rattle.demand.specs.Test.{Sound, higherWork}
-use Rattle.demand.specs.Packed.{packedWork, Fits, Packs}
+use Rattle.demand.specs.Test.{Sound, blocking, higherWork, verdictIn, verdict}
+use Rattle.demand.specs.Packed.{verdictOver, Ranges, packedWork, Fits, Packs}
 use Rattle.demand.proofs.Releases.{by-mono, product-le}
 use Rattle.demand.proofs.Over.{Grows}
-use Rattle.demand.proofs.Table.{work-none, work-more}
+use Rattle.demand.proofs.Table.{work-none, work-more, cost-of, cost-of-deadline, blocking-most, window-is-over, response-over}
 
 module _ (periods costs : List ℕ) where
   pub packed-none : (w : ℕ) → packedWork periods costs 0 w ≡ 0
@@ -84,6 +84,29 @@ module _ (table : List Task) (partitions : List ℕ) (i : ℕ) where
               rw (packed-more (set periods count p) (set costs count c) count w, packed-set periods costs count p c w, getD-set-same periods count p 0 room-p, getD-set-same costs count c 0 room-c, work-more, e, ep, ec, was .same w);
         }
 
-pub packs-fit : (table : List Task) (partitions : List ℕ) (n i : ℕ) (periods costs : List ℕ) (count : ℕ) → Sound table n → Packs table partitions n i periods costs count → Fits periods costs count
-packs-fit table partitions n i periods costs count sound is =
-    record { few = omega (arith, is .few, sound .few); period-least = is .period-least; cost-most = is .cost-most }
+module _ (table : List Task) (partitions : List ℕ) (n i : ℕ) (sound : Sound table n) (mine : i < n) where
+  pub ranges : Ranges (blocking table partitions n i) (periodOf table i) (costOf table i) (deadlineOf table i)
+  ranges =
+      record {
+        blocking-most = blocking-most table partitions n i sound;
+        cost-least = cost-of table n sound i mine;
+        cost-most = cost-of-deadline table n sound i mine;
+        deadline-most = sound .each i mine .deadline-most;
+        period-most = sound .each i mine .period-most;
+      }
+
+  -- the verdict is that over the higher members' work
+  pub verdict-over : verdict table partitions n i ≡ verdictOver (higherWork table partitions n i) (blocking table partitions n i) (periodOf table i) (costOf table i) (deadlineOf table i)
+  unfolding verdict verdictOver
+  verdict-over =
+      ap₂ (λ f g. verdictIn f g (periodOf table i) (deadlineOf table i)) (window-is-over table partitions n i sound mine) (fun-ext (response-over table partitions n i sound))
+
+  module _ (periods costs : List ℕ) (count : ℕ) (is : Packs table partitions n i periods costs count) where
+    pub packs-fit : Fits periods costs count
+    packs-fit = record { few = omega (arith, is .few, sound .few); period-least = is .period-least; cost-most = is .cost-most }
+
+    -- and that over the packed members
+    pub verdict-packed : verdict table partitions n i ≡ verdictOver (packedWork periods costs count) (blocking table partitions n i) (periodOf table i) (costOf table i) (deadlineOf table i)
+    verdict-packed =
+        verdict-over
+        ∙ ap (λ f. verdictOver f (blocking table partitions n i) (periodOf table i) (costOf table i) (deadlineOf table i)) (sym (fun-ext (is .same)))
