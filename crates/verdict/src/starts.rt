@@ -42,7 +42,7 @@ pub fn start_from(
     from: u64,
     limit: u64,
 ) -> Found
-    requires { ⌜ Fits (now periods) (now costs) count × (base ≤ 1_000_001_000_000) × (limit ≤ 2_000_000) × ((s : ℕ) → s < from → s < startOver (packedWork (now periods) (now costs) count) base s) ⌝ }
+    requires { ⌜ Fits (now periods) (now costs) count × (base ≤ 2_000_000) × (limit ≤ 2_000_000) × ((s : ℕ) → s < from → s < startOver (packedWork (now periods) (now costs) count) base s) ⌝ }
     ensures { λ r. ⌜ r ≡ startWithin (packedWork (now (periods .entry)) (now (costs .entry)) count) base limit ⌝ }
 {
     let mut w: u64 = from;
