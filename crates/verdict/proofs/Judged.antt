@@ -54,6 +54,22 @@ module _ (work : ℕ → ℕ) (base limit : ℕ) where
       met-at (startOver work base) 0 w
       (record { from = omega arith; upto = omega (arith, a .upto); met = a .met; earlier = λ s x l. a .earlier s l })
 
+-- a start that was found in time
+pub record Seen (work : ℕ → ℕ) (B T C D L q w : ℕ) : Type 0 where
+  pub is : firstMet (startOver work (B + q * C)) 0 ≡ At w
+  pub release : q * T ≤ w
+  pub in-window : w + C ≤ L
+  pub due : w + C ≤ q * T + D
+  pub earlier : (s : ℕ) → s < w → s < startOver work (B + q * C) s
+
+-- after q jobs: all were in time, most is the worst of them, and job q starts no earlier than from
+pub record Jobs (work : ℕ → ℕ) (B T C D L most from q : ℕ) : Type 0 where
+  pub within : q ≤ jobs L T
+  pub near : q * T < L + T
+  pub worst : largestFound (responseOver work B T C) q ≡ At most
+  pub in-time : most ≤ D
+  pub below : (s : ℕ) → s < from → s < startOver work (B + q * C) s
+
 module _ (work : ℕ → ℕ) (grows : Grows work) (B T C D : ℕ) (ranges : Ranges B T C D) where
   pub period-least : 1 ≤ T
   period-least = omega (arith, ranges .cost-least, ranges .cost-most, ranges .deadline-most)
@@ -106,15 +122,7 @@ module _ (work : ℕ → ℕ) (grows : Grows work) (B T C D : ℕ) (ranges : Ran
         (response-at q (j .at) (start-at q l))
         (omega (arith, ranges .cost-most))
 
-    -- a start that was found in time
-    pub record Seen (q w : ℕ) : Type 0 where
-      pub is : firstMet (startOver work (B + q * C)) 0 ≡ At w
-      pub release : q * T ≤ w
-      pub in-window : w + C ≤ L
-      pub due : w + C ≤ q * T + D
-      pub earlier : (s : ℕ) → s < w → s < startOver work (B + q * C) s
-
-    pub seen : (q w : ℕ) → q * T < L → startWithin work (B + q * C) (q * T + D - C) ≡ At w → Seen q w
+    pub seen : (q w : ℕ) → q * T < L → startWithin work (B + q * C) (q * T + D - C) ≡ At w → Seen work B T C D L q w
     seen q w l e =
         let j = job-at q l in
         let a = within-at work (B + q * C) (q * T + D - C) w e in
@@ -129,20 +137,12 @@ module _ (work : ℕ → ℕ) (grows : Grows work) (B T C D : ℕ) (ranges : Ran
           earlier = a .earlier;
         }
 
-    -- after q jobs: all were in time, most is the worst of them, and job q starts no earlier than from
-    pub record Jobs (most from q : ℕ) : Type 0 where
-      pub within : q ≤ jobs L T
-      pub near : q * T < L + T
-      pub worst : largestFound (responseOver work B T C) q ≡ At most
-      pub in-time : most ≤ D
-      pub below : (s : ℕ) → s < from → s < startOver work (B + q * C) s
-
     next-start : (q w : ℕ) → ((s : ℕ) → s < w → s < startOver work (B + q * C) s) → (s : ℕ) → s < w + C → s < startOver work (B + (q + 1) * C) s
     next-start q w earlier s l =
         let e : B + q * C + C ≡ B + (q + 1) * C = omega (arith, add-mul q 1 C, one-mul C) in
         subst (λ (x : ℕ). s < startOver work x s) e (start-next work grows (B + q * C) C w earlier s l)
 
-    pub jobs-next : (most from q w : ℕ) → q * T < L → Jobs most from q → Seen q w → Jobs (max most (w + C - q * T)) (w + C) (q + 1)
+    pub jobs-next : (most from q w : ℕ) → q * T < L → Jobs work B T C D L most from q → Seen work B T C D L q w → Jobs work B T C D L (max most (w + C - q * T)) (w + C) (q + 1)
     jobs-next most from q w l was s =
         record {
           within = omega (arith, inside q .0 l);
@@ -152,7 +152,7 @@ module _ (work : ℕ → ℕ) (grows : Grows work) (B T C D : ℕ) (ranges : Ran
           below = next-start q w (s .earlier);
         }
 
-    pub jobs-first : (w : ℕ) → firstMet (startOver work B) 0 ≡ At w → w + C ≤ D → Jobs (w + C) (w + C) 1
+    pub jobs-first : (w : ℕ) → firstMet (startOver work B) 0 ≡ At w → w + C ≤ D → Jobs work B T C D L (w + C) (w + C) 1
     jobs-first w e due =
         let base : B + 0 * C ≡ B = omega (arith, zero-mul C) in
         let zero-release : 0 * T ≡ 0 = zero-mul T in
@@ -161,8 +161,8 @@ module _ (work : ℕ → ℕ) (grows : Grows work) (B T C D : ℕ) (ranges : Ran
         let l : 0 * T < L = omega (arith, window-is .from) in
         let j = job-at 0 l in
         let same : w ≡ j .at = met-one (startOver work B) 0 w (j .at) found (subst (λ (x : ℕ). FirstMetAt (startOver work x) 0 (j .at)) base (j .is)) in
-        let none : Jobs 0 0 0 = record { within = omega arith; near = omega (arith, window-is .from); worst = largest-found-none (responseOver work B T C); in-time = omega arith; below = λ s x. absurd (omega arith) } in
-        let start : Seen 0 w = record {
+        let none : Jobs work B T C D L 0 0 0 = record { within = omega arith; near = omega (arith, window-is .from); worst = largest-found-none (responseOver work B T C); in-time = omega arith; below = λ s x. absurd (omega arith) } in
+        let start : Seen work B T C D L 0 w = record {
           is = is;
           release = omega arith;
           in-window = omega (arith, j .ends);
@@ -170,9 +170,9 @@ module _ (work : ℕ → ℕ) (grows : Grows work) (B T C D : ℕ) (ranges : Ran
           earlier = λ s x. subst (λ (y : ℕ). s < startOver work y s) (sym base) (found .earlier s (omega arith) x);
         } in
         let first = jobs-next 0 0 0 w l none start in
-        subst (λ (x : ℕ). Jobs x (w + C) 1) (omega arith) first
+        subst (λ (x : ℕ). Jobs work B T C D L x (w + C) 1) (omega arith) first
 
-    pub jobs-end : (most from q : ℕ) → Jobs most from q → L ≤ q * T → verdictOver work B T C D ≡ Passes most
+    pub jobs-end : (most from q : ℕ) → Jobs work B T C D L most from q → L ≤ q * T → verdictOver work B T C D ≡ Passes most
     jobs-end most from q was past =
         let ge : jobs L T ≤ q = elim (decLe (jobs L T) q) [ yes le ↦ le | no gt ↦ absurd (omega (arith, inside q .1 (omega arith))) ] in
         over-in L window
