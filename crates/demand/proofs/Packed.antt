@@ -110,3 +110,9 @@ module _ (table : List Task) (partitions : List ℕ) (n i : ℕ) (sound : Sound 
     verdict-packed =
         verdict-over
         ∙ ap (λ f. verdictOver f (blocking table partitions n i) (periodOf table i) (costOf table i) (deadlineOf table i)) (sym (fun-ext (is .same)))
+
+    -- with the member's own numbers as they were read
+    pub packed-verdict :
+        (b T C D : ℕ) → b ≡ blocking table partitions n i → T ≡ periodOf table i → C ≡ costOf table i → D ≡ deadlineOf table i →
+        verdictOver (packedWork periods costs count) b T C D ≡ verdict table partitions n i
+    packed-verdict b T C D eb et ec ed = rw (eb, et, ec, ed) (sym verdict-packed)
