@@ -7,3 +7,4 @@ pub mod Largest
 pub mod Meaning
 pub mod Sound
 pub mod Packed
+pub mod Points

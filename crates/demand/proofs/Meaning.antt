@@ -12,7 +12,7 @@ use Rattle.laws.specs.Choice.{pick}
 use Rattle.demand.specs.Kinds.{Task, Found, At, Nothing, Verdict, Passes, NoWindow, NoStart, Late}
 use Rattle.demand.specs.Priority.{deadlineOf}
 use Rattle.demand.specs.Releases.{periodOf, costOf, jobs}
-use Rattle.demand.specs.Test.{Sound, firstMet, windowDemand, window, startDemand, start, responseFrom, response, largestFound, judged, verdictIn, verdict}
+use Rattle.demand.specs.Test.{Sound, firstMet, windowDemand, window, startDemand, start, responseFrom, response, largestFound, judged, worst, verdict}
 use Rattle.demand.specs.Meaning.{FirstMetAt, NeverMet, IsWindow, IsStart, IsResponse, IsPassing, IsWithoutStart, IsLate, VerdictMeans, EveryVerdictMeans, NoStartNever}
 use Rattle.demand.proofs.Releases.{jobs-are}
 use Rattle.demand.proofs.FirstMet.{Says, met-at, met-never, met-says, met-one}
@@ -29,7 +29,7 @@ module _ (table : List Task) (partitions : List ℕ) (n i : ℕ) where
   verdict-none e = rw e
 
   pub verdict-in : (L : ℕ) → window table partitions n i ≡ At L → verdict table partitions n i ≡ judged (deadlineOf table i) (largestFound (response table partitions n i) (jobs L (periodOf table i)))
-  unfolding verdict
+  unfolding verdict worst
   verdict-in L e = rw e
 
   pub window-says : (f : Found) → window table partitions n i ≡ f → Says (windowDemand table partitions n i) 1 f

@@ -13,7 +13,7 @@ use Rattle.laws.proofs.Picked.{sum-most}
 use Rattle.demand.specs.Kinds.{Task}
 use Rattle.demand.specs.Priority.{deadlineOf, higher}
 use Rattle.demand.specs.Releases.{periodOf, costOf, releasesBy}
-use Rattle.demand.specs.Test.{Sound, blocking, higherWork, verdictIn, verdict}
+use Rattle.demand.specs.Test.{Sound, blocking, higherWork, worstIn, verdictBy, worst, verdict}
 use Rattle.demand.specs.Packed.{verdictOver, Ranges, packedWork, Fits, Packs}
 use Rattle.demand.proofs.Releases.{by-mono, product-le}
 use Rattle.demand.proofs.Over.{Grows}
@@ -97,9 +97,9 @@ module _ (table : List Task) (partitions : List ℕ) (n i : ℕ) (sound : Sound 
 
   -- the verdict is that over the higher members' work
   pub verdict-over : verdict table partitions n i ≡ verdictOver (higherWork table partitions n i) (blocking table partitions n i) (periodOf table i) (costOf table i) (deadlineOf table i)
-  unfolding verdict verdictOver
+  unfolding verdict worst verdictOver
   verdict-over =
-      ap₂ (λ f g. verdictIn f g (periodOf table i) (deadlineOf table i)) (window-is-over table partitions n i sound mine) (fun-ext (response-over table partitions n i sound))
+      ap₂ (λ f g. verdictBy f (worstIn g (periodOf table i)) (deadlineOf table i)) (window-is-over table partitions n i sound mine) (fun-ext (response-over table partitions n i sound))
 
   module _ (periods costs : List ℕ) (count : ℕ) (is : Packs table partitions n i periods costs count) where
     pub packs-fit : Fits periods costs count

@@ -17,7 +17,7 @@ use Rattle.search.proofs.Smallest.{smallest-is}
 use Rattle.demand.specs.declared.Verdict.{Verdict}
 use Rattle.demand.specs.declared.Verdict.the-variants.{Passes, NoWindow, NoStart, Late}
 use Rattle.demand.specs.Releases.{jobs}
-use Rattle.demand.specs.Test.{firstMet, largestFound, judged, verdictIn, doesPass}
+use Rattle.demand.specs.Test.{firstMet, largestFound, judged, doesPass}
 use Rattle.demand.specs.Meaning.{FirstMetAt, NeverMet}
 use Rattle.demand.specs.Packed.{startOver, windowOver, responseOver, verdictOver, startWithin, Ranges}
 use Rattle.demand.proofs.Releases.{jobs-are}
