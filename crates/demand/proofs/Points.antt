@@ -7,7 +7,7 @@ use lib.ListN.{length, replicate}
 use Rattle.laws.specs.Sums.{sum, largest}
 use Rattle.model.specs.Limits.{mostTasks}
 use Rattle.search.specs.Smallest.{firstOf, smallest}
-use Rattle.demand.specs.Kinds.{Task, Found, At, Nothing, Verdict, Passes, NoWindow, Late}
+use Rattle.demand.specs.Kinds.{Task, At, Nothing, Verdict, Passes, NoWindow, Late}
 use Rattle.demand.specs.Priority.{outranks, inPartition, higher, lower}
 use Rattle.demand.specs.Releases.{cost, ceilDiv, releasesIn, releasesBy, jobs}
 use Rattle.demand.specs.Test.{firstMet, blocking, windowDemand, window, higherWork, startDemand, start, largestFound, response, worst, verdict}

@@ -1,48 +1,33 @@
 use native.Mathlib.Omega.{arith}
-use mathlib.Core.Path.{_≡_, sym, _∙_, ap}
+use mathlib.Core.Path.{_∙_}
 use Rattle.demand.proofs.Packed.{ranges, packs-fit, packed-verdict}
 use borrow.Author.Needs.{needs}
 use Rattle.verdict.proofs.verdict.Statement.{statement}
 use Rattle.verdict.proofs.verdict.Tie as tie
-use Rattle.verdict.proofs.verdict.Reads as reads
-use Rattle.verdict.proofs.verdict.Lts as lts
-use Rattle.demand.proofs.blocking.Reads as blocking-reads
-use Rattle.demand.proofs.cost_of.Reads as cost-of-reads
-use Rattle.demand.proofs.pack_higher.Reads as pack-higher-reads
-use Rattle.demand.proofs.wide.Reads as wide-reads
-use Rattle.verdict.proofs.jobs.judge.Reads as judge-reads
 
--- src/lib.rt:24:9
 blocking-requires : tie.Need-blocking-requires
 blocking-requires c κs = search needs
 
--- src/lib.rt:25:9
 pack-higher-requires : tie.Need-pack-higher-requires
 pack-higher-requires c κs = search needs
 
--- src/lib.rt:29:16
 mul-mine : tie.Need-mul-mine
 mul-mine c = search needs
 
--- src/lib.rt:29:16
 array-copy-out-mine : tie.Need-array-copy-out-mine
 array-copy-out-mine c = search needs
 
--- src/lib.rt:30:9
 wide-requires : tie.Need-wide-requires
 wide-requires c κs = search needs
 
--- src/lib.rt:31:9
 cost-of-requires : tie.Need-cost-of-requires
 cost-of-requires c κs = let s = c .before .before .before .before .before .before in s .pre .0 .each _ (s .pre .1)
 
--- src/lib.rt:32:9
 wide-requires-2 : tie.Need-wide-requires-2
 wide-requires-2 c κs = search needs
 
--- src/lib.rt:33:5
 judge-requires : tie.Need-judge-requires
-judge-requires c κs =     let s = c .before .before .before .before .before .before .before .before .before .before in
+judge-requires c κs = let s = c .before .before .before .before .before .before .before .before .before .before in
     let a = s .args in
     let h = c .before .before .before .before .before .before .before .before .pack-higher in
     let g = ranges (a .t1) (a .partitions) (a .tasks) (a .task) (s .pre .0) (s .pre .1) in
@@ -60,9 +45,8 @@ judge-requires c κs =     let s = c .before .before .before .before .before .be
       },
     )
 
--- src/lib.rt:15:1
 returns : tie.Need-returns
-returns c =     let s = c .before .before .before .before .before .before .before .before .before .before .before in
+returns c = let s = c .before .before .before .before .before .before .before .before .before .before .before in
     let a = s .args in
     let h = c .before .before .before .before .before .before .before .before .before .pack-higher in
     let b = c .before .before .before .before .before .before .before .before .before .before .blocking in
