@@ -8,3 +8,4 @@ pub mod Meaning
 pub mod Sound
 pub mod Packed
 pub mod Points
+pub mod Membership
