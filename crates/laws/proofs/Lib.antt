@@ -1,4 +1,6 @@
 pub mod Choice
 pub mod Front
+pub mod Growth
 pub mod Joined
+pub mod Only
 pub mod Sums
