@@ -1,2 +1,4 @@
 pub mod Highest
 pub mod View
+pub mod Line
+pub mod Work
