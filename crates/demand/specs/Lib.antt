@@ -1,0 +1,5 @@
+pub mod Kinds
+pub mod Priority
+pub mod Releases
+pub mod Test
+pub mod Meaning
