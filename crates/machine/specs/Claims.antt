@@ -10,7 +10,7 @@ use Rattle.machine.specs.Box.{partitionOf, schedulerOf, boxBefore, Finis
 use Rattle.model.specs.Limits.{taskOf}
 
 -- a job finishes at one tick at most
-pub FinishesOnce : Type 0
+abbrev pub FinishesOnce : Type 0
 FinishesOnce = (table : List Task) (partitions : List ℕ) (n : ℕ) (releases : Pattern) (task release f g : ℕ)
     → Finishes table partitions n releases task release f → Finishes table partitions n releases task release g → f ≡ g
 
@@ -25,11 +25,11 @@ pub record StepsApart (table : List Task) (partitions : List ℕ) (n p : ℕ) : 
   pub own-releases : (one other : Pattern) → AgreeOn partitions p one other → (tick : ℕ) (before : State)
       → step (schedulerOf table partitions n p) one tick before ≡ step (schedulerOf table partitions n p) other tick before
 
-pub EachStepsApart : Type 0
+abbrev pub EachStepsApart : Type 0
 EachStepsApart = (table : List Task) (partitions : List ℕ) (n p : ℕ) → StepsApart table partitions n p
 
 -- "Two accepted runs .. whose records for one partition's tasks agree give those records equal finish ticks, whatever else is released."
-pub Isolation : Type 0
+abbrev pub Isolation : Type 0
 Isolation = (table : List Task) (partitions : List ℕ) (n : ℕ) (one other : Pattern) (task release finish : ℕ)
     → AgreeOn partitions (partitionOf partitions task) one other
     → Finishes table partitions n one task release finish → Finishes table partitions n other task release finish
@@ -45,7 +45,7 @@ lowered ticks free = free
 lowered ticks (runs task release left) = runs task release (left - ticks)
 
 -- with no release from a tick on and no end before the last of so many ticks, nothing can start: only the time left falls
-pub QuietTicks : Type 0
+abbrev pub QuietTicks : Type 0
 QuietTicks = (table : List Task) (partitions : List ℕ) (n : ℕ) (releases : Pattern) (p tick ticks : ℕ)
     → ((later task : ℕ) → tick ≤ later → later < tick + ticks → partitionOf partitions task ≡ p → releases later task ≡ 0)
     → Lasts ticks (boxBefore table partitions n releases tick p .running)
@@ -59,7 +59,7 @@ pub record ScriptAsPattern (table : List Task) (n : ℕ) (script : List Release)
   pub no-others : (tick task : ℕ) → 0 < patternOf script tick task
       → (i : ℕ) × (i < length script) × (recordOf script i .tick ≡ tick) × (recordOf script i .task ≡ task)
 
-pub LegalScriptIsLegal : Type 0
+abbrev pub LegalScriptIsLegal : Type 0
 LegalScriptIsLegal = (table : List Task) (n : ℕ) (script : List Release) → LegalScript table n script → ScriptAsPattern table n script
 
 -- a job that runs is one of the partition's own tasks' and of the n tasks', and it was released, by then
@@ -69,7 +69,7 @@ pub record OwnJob (partitions : List ℕ) (n : ℕ) (releases : Pattern) (p tick
   pub was-released : 0 < releases release task
   pub by-then : release ≤ tick
 
-pub RunsOwnJobs : Type 0
+abbrev pub RunsOwnJobs : Type 0
 RunsOwnJobs = (table : List Task) (partitions : List ℕ) (n : ℕ) (releases : Pattern) (tick task release : ℕ)
     → (r : RunsAt table partitions n releases tick task release) → OwnJob partitions n releases (r .partition) tick task release
 
@@ -80,12 +80,12 @@ pub record WideAndApart (table : List Task) (partitions : List ℕ) (n : ℕ) (p
       → OfPartition (placeAt places (partitionOf partitions other)) x → partitionOf partitions one ≡ partitionOf partitions other
 
 -- then no processor serves two jobs, and a job occupies processors of its own partition
-pub ServesOne : Type 0
+abbrev pub ServesOne : Type 0
 ServesOne = (table : List Task) (partitions : List ℕ) (n : ℕ) (places : List Partition) → WideAndApart table partitions n places
     → (releases : Pattern) (tick x task release task′ release′ : ℕ)
     → Serves table partitions n places releases tick x task release → Serves table partitions n places releases tick x task′ release′
     → (task ≡ task′) × (release ≡ release′)
 
-pub OccupiesOwn : Type 0
+abbrev pub OccupiesOwn : Type 0
 OccupiesOwn = (table : List Task) (partitions : List ℕ) (n : ℕ) (places : List Partition) → WideAndApart table partitions n places
     → (task x : ℕ) → task < n → Occupies table partitions places task x → OfPartition (placeAt places (partitionOf partitions task)) x
