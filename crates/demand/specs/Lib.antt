@@ -3,3 +3,4 @@ pub mod Priority
 pub mod Releases
 pub mod Test
 pub mod Meaning
+pub mod Packed

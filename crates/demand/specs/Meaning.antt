@@ -64,9 +64,9 @@ module _ (table : List Task) (partitions : List ℕ) (n i : ℕ) where
     pub late : (verdict table partitions n i ≡ Late) ↔ IsLate
 
 -- every verdict says just that
-pub EveryVerdictMeans : Type 0
+abbrev pub EveryVerdictMeans : Type 0
 EveryVerdictMeans = (table : List Task) (partitions : List ℕ) (n i : ℕ) → Sound table n → i < n → VerdictMeans table partitions n i
 
 -- a window that closes by H gives every needed start by H too
-pub NoStartNever : Type 0
+abbrev pub NoStartNever : Type 0
 NoStartNever = (table : List Task) (partitions : List ℕ) (n i : ℕ) → Sound table n → i < n → verdict table partitions n i ≡ NoStart → ⊥

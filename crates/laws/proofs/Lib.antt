@@ -4,3 +4,5 @@ pub mod Growth
 pub mod Joined
 pub mod Only
 pub mod Sums
+pub mod Division
+pub mod Picked
