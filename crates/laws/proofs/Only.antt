@@ -20,14 +20,10 @@ pub only-add : (b : Bool) (x y : ℕ) → only b (x + y) ≡ only b x + only b y
 only-add true x y = refl
 only-add false x y = refl
 
-pub only-most : (b : Bool) (x : ℕ) → only b x ≤ x
-only-most true x = omega arith
-only-most false x = omega arith
-
--- what counts in one place counts as much in another
-pub only-le : (b : Bool) (x y : ℕ) → (b ≡ true → x ≤ y) → only b x ≤ only b y
-only-le true x y h = h refl
-only-le false x y h = omega arith
+-- where the test passes the one is at most the other
+pub only-under : (b : Bool) (x y : ℕ) → (b ≡ true → x ≤ y) → only b x ≤ only b y
+only-under true x y h = h refl
+only-under false x y h = omega arith
 
 pub only-same : (b : Bool) (x y : ℕ) → (b ≡ true → x ≡ y) → only b x ≡ only b y
 only-same true x y h = h refl

@@ -6,4 +6,5 @@ pub mod Once
 pub mod Isolation
 pub mod Quiet
 pub mod Script
+pub mod Box
 pub mod Points
