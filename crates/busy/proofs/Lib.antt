@@ -2,3 +2,4 @@ pub mod Over
 pub mod Window
 pub mod Arrivals
 pub mod Service
+pub mod Ends
