@@ -3,3 +3,4 @@ pub mod Window
 pub mod Arrivals
 pub mod Service
 pub mod Ends
+pub mod Passing

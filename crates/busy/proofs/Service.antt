@@ -41,13 +41,14 @@ module _ (scheduler : Scheduler) (i : ℕ) where
   lowerLeft free = 0
   lowerLeft (runs j a l) = only (scheduler .outranks i j) l
 
+-- how long a job whose task i outranks still holds the partition before a tick
+abbrev pub carried : Scheduler → Pattern → ℕ → ℕ → ℕ
+carried scheduler releases i t = lowerLeft scheduler i (runningBefore scheduler releases t)
+
 module _ (scheduler : Scheduler) (ranked : Ranked (scheduler .outranks)) (releases : Pattern) (i : ℕ) (known : i < scheduler .tasks)
     (cost : ℕ → ℕ) (short : (t k : ℕ) → ofMembers scheduler releases t k ≤ cost k) where
   abbrev run : ℕ → Running
   run t = runningBefore scheduler releases t
-
-  abbrev carried : ℕ → ℕ
-  carried t = lowerLeft scheduler i (run t)
 
   abbrev both : (ℕ → ℕ) → ℕ
   both f = overBoth (above scheduler i) i (scheduler .tasks) f
@@ -60,7 +61,7 @@ module _ (scheduler : Scheduler) (ranked : Ranked (scheduler .outranks)) (releas
       go (runs j a l) = only-le (eqb k j) 1
 
   -- a carried job has at most the largest cost of those that i outranks, less the tick that it has run
-  carried-most : (t : ℕ) → carried t ≤ largest (λ j. only (below scheduler i j) (cost j)) (scheduler .tasks) - 1
+  carried-most : (t : ℕ) → carried scheduler releases i t ≤ largest (λ j. only (below scheduler i j) (cost j)) (scheduler .tasks) - 1
   carried-most t = go (run t) refl
     where
       go : (r : Running) → run t ≡ r → lowerLeft scheduler i r ≤ largest (λ j. only (below scheduler i j) (cost j)) (scheduler .tasks) - 1
@@ -137,11 +138,11 @@ module _ (scheduler : Scheduler) (ranked : Ranked (scheduler .outranks)) (releas
   not-lower t k j (higher l up) h over down first = no-work k t over (first k l (ranked .transitive k i j up down)) h
 
   working : (t : ℕ) → 0 < both (λ k. pending scheduler releases k t + ofMembers scheduler releases t k)
-      → 1 + carried (suc t) ≤ carried t + both (λ k. serves scheduler releases k t)
+      → 1 + carried scheduler releases i (suc t) ≤ carried scheduler releases i t + both (λ k. serves scheduler releases k t)
   working t h = go (has-work t h) (view scheduler ranked releases t)
     where
       go : (k : ℕ) × Has t k × (0 < pending scheduler releases k t + ofMembers scheduler releases t k) → ViewAt scheduler releases t
-          → 1 + carried (suc t) ≤ carried t + both (λ k. serves scheduler releases k t)
+          → 1 + carried scheduler releases i (suc t) ≤ carried scheduler releases i t + both (λ k. serves scheduler releases k t)
       go r (goes-on j a l e e′ same) = omega (arith, ap (lowerLeft scheduler i) e, ap (lowerLeft scheduler i) e′, at (scheduler .outranks i j) refl)
         where
           at : (b : Bool) → scheduler .outranks i j ≡ b → 1 + only b l ≤ only b (suc l) + both (λ k. serves scheduler releases k t)
@@ -155,5 +156,5 @@ module _ (scheduler : Scheduler) (ranked : Ranked (scheduler .outranks)) (releas
       go r (rests over e′ same none) = absurd (not-rests t (r .0) (r .1) (r .2) over none)
 
   pub service : Service (above scheduler i) i (scheduler .tasks) (largest (λ j. only (below scheduler i j) (cost j)) (scheduler .tasks) - 1)
-      (ofMembers scheduler releases) (pending scheduler releases) (serves scheduler releases) carried
+      (ofMembers scheduler releases) (pending scheduler releases) (serves scheduler releases) (carried scheduler releases i)
   service = record { conserved = conserved scheduler ranked releases; unit = unit; working = working; carried-most = carried-most }
