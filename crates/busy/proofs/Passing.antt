@@ -18,12 +18,13 @@ use Rattle.demand.specs.Packed.{windowOver}
 use Rattle.demand.proofs.Table.{window-over}
 use Rattle.demand.proofs.Meaning.{every-verdict-means}
 use Rattle.machine.specs.Step.{Pattern, Scheduler, ofMembers}
-use Rattle.machine.specs.Pattern.{LegalPattern}
+use Rattle.machine.specs.Pattern.{LegalPattern, recordOf, patternOf}
 use Rattle.machine.specs.Box.{partitionOf, memberOf, schedulerOf, Finishes}
 use Rattle.machine.proofs.Work.{serves}
 use Rattle.machine.proofs.Box.{ranked}
+use Rattle.machine.proofs.Script.{legal-script-is-legal}
 use Rattle.busy.specs.Window.{Service, Tested}
-use Rattle.busy.specs.Passing.{FinishesInTime, PassingIsInTime}
+use Rattle.busy.specs.Passing.{FinishesInTime, PassingIsInTime, RecordsAreInTime}
 use Rattle.busy.proofs.Window.{busy-window}
 use Rattle.busy.proofs.Arrivals.{most, members-legal, short, arrivals}
 use Rattle.busy.proofs.Service.{pending, carried, service}
@@ -85,3 +86,9 @@ module _ (table : List Task) (partitions : List ℕ) (n i : ℕ) (sound : Sound 
 pub passing-is-in-time : PassingIsInTime
 passing-is-in-time table partitions n i response sound known verdict-is releases legal release job =
     in-time table partitions n i sound known releases legal response (every-verdict-means table partitions n i sound known .passes response .0 verdict-is) release job
+
+pub records-are-in-time : RecordsAreInTime
+records-are-in-time table partitions n script sound legal i response below verdict-is =
+    let as-pattern = legal-script-is-legal table n script legal in
+    passing-is-in-time table partitions n (recordOf script i .task) response sound (legal .known i below) verdict-is (patternOf script) (as-pattern .legal) (recordOf script i .tick)
+    (omega (arith, as-pattern .records i below, legal .lengths i below .0))

@@ -2,12 +2,13 @@
 use Prim.Native.Nat.{ℕ, _+_, _≤_, _<_}
 use mathlib.Core.Path.{_≡_}
 use mathlib.Core.List.{List}
+use lib.ListN.{length}
 use Rattle.demand.specs.declared.Verdict.the-variants.{Passes}
-use Rattle.machine.specs.Kinds.{Task}
+use Rattle.machine.specs.Kinds.{Task, Release}
 use Rattle.demand.specs.Priority.{deadlineOf}
 use Rattle.demand.specs.Test.{Sound, verdict}
 use Rattle.machine.specs.Step.{Pattern}
-use Rattle.machine.specs.Pattern.{LegalPattern}
+use Rattle.machine.specs.Pattern.{LegalPattern, LegalScript, recordOf, patternOf}
 use Rattle.machine.specs.Box.{Finishes}
 
 -- the job that a task released at a tick finishes, within a response and within its deadline
@@ -23,3 +24,9 @@ abbrev pub PassingIsInTime : Type 0
 PassingIsInTime = (table : List Task) (partitions : List ℕ) (n task response : ℕ) → Sound table n → task < n
     → verdict table partitions n task ≡ Passes response → (releases : Pattern) → LegalPattern table n releases
     → (release : ℕ) → 0 < releases release task → FinishesInTime table partitions n releases task release response
+
+-- and every record of a legal script whose task passes
+abbrev pub RecordsAreInTime : Type 0
+RecordsAreInTime = (table : List Task) (partitions : List ℕ) (n : ℕ) (script : List Release) → Sound table n → LegalScript table n script
+    → (i response : ℕ) → i < length script → verdict table partitions n (recordOf script i .task) ≡ Passes response
+    → FinishesInTime table partitions n (patternOf script) (recordOf script i .task) (recordOf script i .tick) response

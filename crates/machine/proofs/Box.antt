@@ -13,8 +13,8 @@ use Rattle.demand.specs.Priority.{deadlineOf, outranks}
 use Rattle.demand.proofs.Priority.{outranks-self, outranks-one, outranks-chain}
 use Rattle.machine.specs.Kinds.{Task}
 use Rattle.machine.specs.Step.{Pattern, Job, Running, runs, State, ofMembers}
-use Rattle.machine.specs.Box.{partitionOf, memberOf, schedulerOf, boxBefore, boxDuring, Finishes, FirstOf}
-use Rattle.machine.specs.Claims.{FinishesOnce, QuietTicks, RunsOwnJobs, ServesOne, OccupiesOwn}
+use Rattle.machine.specs.Box.{partitionOf, memberOf, schedulerOf, boxBefore, boxDuring, Finishes, FirstOf, processorOf}
+use Rattle.machine.specs.Claims.{FinishesOnce, QuietTicks, RunsOwnJobs, ServesOne, OccupiesOwn, OccupiesWidth}
 use Rattle.machine.proofs.Highest.{Ranked, not-both}
 use Rattle.machine.proofs.Once.{ends-once, runs-then, runs-own}
 use Rattle.machine.proofs.Quiet.{quiet}
@@ -79,3 +79,7 @@ serves-one table partitions n places wide releases tick x task release task′ r
     let e = subst (λ (y : ℕ). boxDuring table partitions n releases tick y .running ≡ runs task release (s .runs-then .left)) q (s .runs-then .running) in
     let e′ = s′ .runs-then .running in
     ((cc), cc)
+
+pub occupies-width : OccupiesWidth
+unfolding FirstOf processorOf
+occupies-width table partitions places task k below = ((k, below, refl), λ l e. omega arith)

@@ -1,16 +1,21 @@
 -- What is released to others does not reach a partition.
 use Prim.Native.Nat.{ℕ, zero, suc}
 use mathlib.Core.Path.{_≡_, refl, sym, _∙_, ap, fun-ext}
-use mathlib.Core.Bool.{Bool, true, false}
-use mathlib.Core.List.{List}
+use mathlib.Core.Bool.{Bool, true, false, _&&_}
+use mathlib.Core.List.{List, [], _∷_}
 use lib.Dec.{eqb}
-use borrow.Author.Tests.{eqb-true}
-use Rattle.laws.specs.Sums.{only}
+use borrow.Author.Tests.{eqb-true, eqb-false, ne-eqb}
+use Rattle.laws.specs.Choice.{pick}
 use Rattle.laws.proofs.Only.{only-same}
-use Rattle.machine.specs.Kinds.{Task}
+use Rattle.machine.specs.Kinds.{Task, Release}
 use Rattle.machine.specs.Step.{Pattern, State, Scheduler, ofMembers, duringTick, step, stateBefore}
-use Rattle.machine.specs.Box.{partitionOf, memberOf, schedulerOf, boxBefore, Finishes}
-use Rattle.machine.specs.Claims.{AgreeOn, EachStepsApart, Isolation}
+use Rattle.machine.specs.Box.{partitionOf, memberOf, recordsOf, schedulerOf, Finishes}
+use Rattle.machine.specs.Pattern.{patternOf}
+use Rattle.machine.specs.Claims.{AgreeOn, EachStepsApart, Isolation, ScriptIsolation}
+
+and-false : (b : Bool) → (b && false) ≡ false
+and-false true = refl
+and-false false = refl
 
 -- members' releases decide
 module _ (scheduler : Scheduler) (one other : Pattern) (same : ofMembers scheduler one ≡ ofMembers scheduler other) where
@@ -41,3 +46,20 @@ unfolding Finishes
 isolation table partitions n one other task release finish agree ends =
     let p = partitionOf partitions task in
     ap (λ (s : State). s .running) (sym (state-same (schedulerOf table partitions n p) one other (members-agree table partitions n p one other agree) finish)) ∙ ends
+
+-- what a script gives a partition's task is given by the partition's records
+own-records : (partitions : List ℕ) (p : ℕ) (script : List Release) (tick task : ℕ) → partitionOf partitions task ≡ p
+    → patternOf script tick task ≡ patternOf (recordsOf partitions p script) tick task
+unfolding patternOf recordsOf memberOf
+own-records partitions p [] tick task e = refl
+own-records partitions p (r ∷ script) tick task e = go (eqb (partitionOf partitions (r .task)) p) refl (own-records partitions p script tick task e)
+  where
+    go : (b : Bool) → eqb (partitionOf partitions (r .task)) p ≡ b → patternOf script tick task ≡ patternOf (recordsOf partitions p script) tick task
+        → patternOf (r ∷ script) tick task ≡ patternOf (pick b (r ∷ recordsOf partitions p script) (recordsOf partitions p script)) tick task
+    go true f ih = rw ih
+    go false f ih = rw (ne-eqb (r .task) task (λ s. eqb-false _ p f (ap (partitionOf partitions) s ∙ e)), and-false) ih
+
+pub script-isolation : ScriptIsolation
+script-isolation table partitions n one other task release finish same =
+    isolation table partitions n (patternOf one) (patternOf other) task release finish
+    (λ t k e. own-records partitions (partitionOf partitions task) one t k e ∙ (ap (λ (s : List Release). patternOf s t k) same ∙ sym (own-records partitions (partitionOf partitions task) other t k e)))

@@ -2,13 +2,14 @@
 use Prim.Native.Nat.{ℕ, _+_, _<_}
 use mathlib.Core.Path.{_≡_}
 use mathlib.Core.Bool.{Bool}
-use mathlib.Core.List.{List}
+use mathlib.Core.List.{List, [], _∷_}
 use lib.Dec.{eqb}
 use lib.ListN.{getD}
-use Rattle.machine.specs.Kinds.{Task, Partition}
+use Rattle.laws.specs.Choice.{pick}
+use Rattle.machine.specs.Kinds.{Task, Partition, Release}
 use Rattle.model.specs.Limits.{taskOf, zeroPartition}
 use Rattle.demand.specs.Priority.{deadlineOf, outranks}
-use Rattle.machine.specs.Step.{Pattern, Running, runs, State, Scheduler, duringTick, stateBefore}
+use Rattle.machine.specs.Step.{Pattern, runs, State, Scheduler, duringTick, stateBefore, Ends}
 
 abbrev pub partitionOf : List ℕ → ℕ → ℕ
 partitionOf partitions task = getD partitions task 0
@@ -16,6 +17,11 @@ partitionOf partitions task = getD partitions task 0
 -- task k is a member of partition p
 unfoldable pub memberOf : List ℕ → (p k : ℕ) → Bool
 memberOf partitions p k = eqb (partitionOf partitions k) p
+
+-- a script's "records for one partition's tasks"
+unfoldable pub recordsOf : List ℕ → ℕ → List Release → List Release
+recordsOf partitions p [] = []
+recordsOf partitions p (r ∷ script) = pick (memberOf partitions p (r .task)) (r ∷ recordsOf partitions p script) (recordsOf partitions p script)
 
 -- the scheduler of partition p: "smaller D has higher priority; equal D goes by lower task number"
 abbrev pub schedulerOf : List Task → List ℕ → (n p : ℕ) → Scheduler
@@ -37,7 +43,7 @@ module _ (table : List Task) (partitions : List ℕ) (n : ℕ) (releases : Patte
 
   -- the finish tick of the job that a task released at a tick
   unfoldable pub Finishes : (task release finish : ℕ) → Type 0
-  Finishes task release finish = boxBefore finish (partitionOf partitions task) .running ≡ runs task release 0
+  Finishes task release finish = Ends (schedulerOf table partitions n (partitionOf partitions task)) releases task release finish
 
   -- that job runs, in some partition, while a tick lasts
   pub record RunsAt (tick task release : ℕ) : Type 0 where

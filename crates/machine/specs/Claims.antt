@@ -6,7 +6,7 @@ use lib.ListN.{length}
 use Rattle.machine.specs.Kinds.{Task, Partition, Release}
 use Rattle.machine.specs.Step.{Pattern, Running, free, runs, State, step}
 use Rattle.machine.specs.Pattern.{LegalPattern, LegalScript, recordOf, patternOf}
-use Rattle.machine.specs.Box.{partitionOf, schedulerOf, boxBefore, Finishes, RunsAt, placeAt, volumeOf, OfPartition, Occupies, Serves}
+use Rattle.machine.specs.Box.{partitionOf, recordsOf, schedulerOf, boxBefore, Finishes, RunsAt, placeAt, processorOf, volumeOf, OfPartition, Occupies, Serves}
 use Rattle.model.specs.Limits.{taskOf}
 
 -- a job finishes at one tick at most
@@ -33,6 +33,12 @@ abbrev pub Isolation : Type 0
 Isolation = (table : List Task) (partitions : List ℕ) (n : ℕ) (one other : Pattern) (task release finish : ℕ)
     → AgreeOn partitions (partitionOf partitions task) one other
     → Finishes table partitions n one task release finish → Finishes table partitions n other task release finish
+
+-- the same of two scripts
+abbrev pub ScriptIsolation : Type 0
+ScriptIsolation = (table : List Task) (partitions : List ℕ) (n : ℕ) (one other : List Release) (task release finish : ℕ)
+    → recordsOf partitions (partitionOf partitions task) one ≡ recordsOf partitions (partitionOf partitions task) other
+    → Finishes table partitions n (patternOf one) task release finish → Finishes table partitions n (patternOf other) task release finish
 
 -- what runs has at least so many ticks left
 unfoldable pub Lasts : ℕ → Running → Type 0
@@ -79,13 +85,19 @@ pub record WideAndApart (table : List Task) (partitions : List ℕ) (n : ℕ) (p
   pub apart : (one other x : ℕ) → one < n → other < n → OfPartition (placeAt places (partitionOf partitions one)) x
       → OfPartition (placeAt places (partitionOf partitions other)) x → partitionOf partitions one ≡ partitionOf partitions other
 
--- then no processor serves two jobs, and a job occupies processors of its own partition
+-- then no processor serves two jobs
 abbrev pub ServesOne : Type 0
 ServesOne = (table : List Task) (partitions : List ℕ) (n : ℕ) (places : List Partition) → WideAndApart table partitions n places
     → (releases : Pattern) (tick x task release task′ release′ : ℕ)
     → Serves table partitions n places releases tick x task release → Serves table partitions n places releases tick x task′ release′
     → (task ≡ task′) × (release ≡ release′)
 
+-- a job occupies processors of its own partition, and as many as its width
 abbrev pub OccupiesOwn : Type 0
 OccupiesOwn = (table : List Task) (partitions : List ℕ) (n : ℕ) (places : List Partition) → WideAndApart table partitions n places
     → (task x : ℕ) → task < n → Occupies table partitions places task x → OfPartition (placeAt places (partitionOf partitions task)) x
+
+abbrev pub OccupiesWidth : Type 0
+OccupiesWidth = (table : List Task) (partitions : List ℕ) (places : List Partition) (task : ℕ) → (k : ℕ) → k < taskOf table task .width
+    → Occupies table partitions places task (processorOf (placeAt places (partitionOf partitions task)) k)
+    × ((l : ℕ) → processorOf (placeAt places (partitionOf partitions task)) k ≡ processorOf (placeAt places (partitionOf partitions task)) l → k ≡ l)
