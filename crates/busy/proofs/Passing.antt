@@ -41,8 +41,8 @@ module _ (table : List Task) (partitions : List ℕ) (n i : ℕ) (sound : Sound 
         from-1 = p .window .from;
         closes = omega (arith, p .window .met, window-over table partitions n i sound known (p .length) (p .window .from));
         starts = λ q inside.
-          let r = p .each q (omega arith) in
-          (r .1 .start, omega (arith, r .1 .start-is .met), omega (arith, r .1 .response-is, r .2));
+            let r = p .each q (omega arith) in
+            (r .1 .start, omega (arith, r .1 .start-is .met), omega (arith, r .1 .response-is, r .2));
       }
 
   -- the partition of i, as the machine has it
@@ -72,8 +72,8 @@ module _ (table : List Task) (partitions : List ℕ) (n i : ℕ) (sound : Sound 
     in-time response p a job =
         let here : 0 < ofMembers home releases a i = omega (arith, own-job a) in
         let s = busy-window (higher table partitions i) i n (blocking table partitions n i) (most table) (periodOf table i) (costOf table i) 0 response
-            (ofMembers home releases) (pending home releases) (serves home releases) (carried home releases i) (λ x. x)
-            served (arrivals table n sound (ofMembers home releases) theirs-legal i) (tested response p) a here in
+        (ofMembers home releases) (pending home releases) (serves home releases) (carried home releases i) (λ x. x)
+        served (arrivals table n sound (ofMembers home releases) theirs-legal i) (tested response p) a here in
         let f = ends-in-time home (ranked table) releases i a here (theirs-short a i) s in
         record {
           finish = f .0;

@@ -176,9 +176,9 @@ module _ {higher : ℕ → Bool} {i n blocking : ℕ} {most : ℕ → ℕ → �
     where
       go : (t : ℕ) × (t ≤ a) × (waits S t ≡ 0) × ((u : ℕ) → t < u → u ≤ a → 0 < waits S u) → StartsInTime i cost response releases serves base a
       go t =
-          let r = number (t .0) (t .1) (t .2) (t .3) (K .window) (K .from-1) (K .closes) in
-          let w = K .starts (r .0) (r .3) in
-          let h = begun-by (t .0) (t .1) (t .2) (t .3) (r .0) (w .0) (r .1) (w .1) in
+          let r = number (t .0) (t .1) (t .2) (t .3) (K .window) (K .from-1) (omega (arith, K .closes)) in
+          let w = K .starts (r .0) (omega (arith, r .3)) in
+          let h = begun-by (t .0) (t .1) (t .2) (t .3) (r .0) (w .0) (r .1) (omega (arith, w .1)) in
           let c = sum-crosses (serves i) (S .unit i) (t .0 + suc (w .0)) (own-work a) h in
           record {
             start = c .0;

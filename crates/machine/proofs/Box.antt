@@ -47,7 +47,7 @@ no-release table partitions n p releases t m h =
 pub quiet-ticks : QuietTicks
 quiet-ticks table partitions n releases p t d z lasts =
     let r = quiet (schedulerOf table partitions n p) (ranked table) releases t d
-        (λ u g g′ m. no-release table partitions n p releases u m (z u m g g′)) (boxBefore table partitions n releases t p .running) refl lasts in
+    (λ u g g′ m. no-release table partitions n p releases u m (z u m g g′)) (boxBefore table partitions n releases t p .running) refl lasts in
     same-state _ (boxBefore table partitions n releases t p .waiting) (r .0) (r .1)
   where
     state : (ℕ → List Job) → Running → State
@@ -66,15 +66,15 @@ runs-own-jobs table partitions n releases tick task release r =
 
 pub occupies-own : OccupiesOwn
 unfolding FirstOf
-occupies-own table partitions n places wide task x known (k , below , at) = (k, omega (arith, wide .wide task known), at)
+occupies-own table partitions n places wide task x known (k, below, at) = (k, omega (arith, wide .wide task known), at)
 
 pub serves-one : ServesOne
 serves-one table partitions n places wide releases tick x task release task′ release′ s s′ =
     let o = runs-own-jobs table partitions n releases tick task release (s .runs-then) in
     let o′ = runs-own-jobs table partitions n releases tick task′ release′ (s′ .runs-then) in
     let p = wide .apart task task′ x (o .known) (o′ .known)
-        (occupies-own table partitions n places wide task x (o .known) (s .on))
-        (occupies-own table partitions n places wide task′ x (o′ .known) (s′ .on)) in
+    (occupies-own table partitions n places wide task x (o .known) (s .on))
+    (occupies-own table partitions n places wide task′ x (o′ .known) (s′ .on)) in
     let q : s .runs-then .partition ≡ s′ .runs-then .partition = sym (o .its-partition) ∙ (p ∙ o′ .its-partition) in
     let e = subst (λ (y : ℕ). boxDuring table partitions n releases tick y .running ≡ runs task release (s .runs-then .left)) q (s .runs-then .running) in
     let e′ = s′ .runs-then .running in

@@ -8,7 +8,6 @@ use mathlib.Core.Logic.{⊎-elim}
 use native.Mathlib.Nat.{eq-or-lt-of-le}
 use native.Mathlib.Omega.{arith}
 use lib.Dec.{T}
-use Rattle.laws.specs.Choice.{pick}
 use Rattle.machine.specs.Step.{Job, better, highest}
 
 -- a strict total order of the tasks, as a test
@@ -42,10 +41,12 @@ module _ (outranks : ℕ → ℕ → Bool) (waiting : ℕ → List Job) where
           (omega arith, (j, js, e), below-suc (λ m. outranks m n ≡ true → waiting m ≡ []) n (λ m l up. c m l) (λ up. not-both _ up (R .irreflexive n)))
       go (j ∷ js) e (some k) c = at (outranks n k) refl
         where
-          at : (b : Bool) → outranks n k ≡ b → Chosen (suc n) (some (pick b n k))
+          at : (b : Bool) → outranks n k ≡ b → Chosen (suc n) (better outranks n (j ∷ js) (some k))
           at true up =
+              rw up
               (omega arith, (j, js, e), below-suc (λ m. outranks m n ≡ true → waiting m ≡ []) n (λ m l over. c .2 m l (R .transitive m n k over up)) (λ over. not-both _ over (R .irreflexive n)))
           at false down =
+              rw down
               (omega (arith, c .0), c .1, below-suc (λ m. outranks m k ≡ true → waiting m ≡ []) n (c .2) (λ over. not-both _ over down))
 
   -- the choice looks at nothing but who waits

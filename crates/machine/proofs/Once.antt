@@ -41,26 +41,30 @@ module _ (scheduler : Scheduler) (ranked : Ranked (scheduler .outranks)) (releas
             sum-grows (λ u. theirs scheduler releases u k) t a (omega arith),
           )
 
-  later : (k a f g : ℕ) → Ends scheduler releases k a f → Ends scheduler releases k a g → f < g → ⊥
-  later k a f zero e e′ h = omega arith
-  later k a f (suc g) e e′ h =
+  later : (k a l f g : ℕ) → runningBefore scheduler releases f ≡ runs k a l → runningBefore scheduler releases g ≡ runs k a l → f < g → ⊥
+  later k a l f zero e e′ h = omega arith
+  later k a l f (suc g) e e′ h =
       omega (
         arith,
-        runs-in-line f k a 0 e,
-        runs-in-line (suc g) k a 0 e′,
+        runs-in-line f k a l e,
+        runs-in-line (suc g) k a l e′,
         sum-grows (serves scheduler releases k) f g (omega arith),
         sum-suc (serves scheduler releases k) g,
         ap (servesTask k) e′,
-        serves-itself k a 0,
+        serves-itself k a l,
       )
 
-  pub ends-once : (k a f g : ℕ) → Ends scheduler releases k a f → Ends scheduler releases k a g → f ≡ g
-  ends-once k a f g e e′ = go (decLt f g) (decLt g f)
+  -- a job has so much time left before one tick only
+  pub left-once : (k a l f g : ℕ) → runningBefore scheduler releases f ≡ runs k a l → runningBefore scheduler releases g ≡ runs k a l → f ≡ g
+  left-once k a l f g e e′ = go (decLt f g) (decLt g f)
     where
       go : Dec (f < g) → Dec (g < f) → f ≡ g
-      go (yes p) d = absurd (later k a f g e e′ p)
-      go (no p) (yes q) = absurd (later k a g f e′ e q)
+      go (yes p) d = absurd (later k a l f g e e′ p)
+      go (no p) (yes q) = absurd (later k a l g f e′ e q)
       go (no p) (no q) = omega arith
+
+  pub ends-once : (k a f g : ℕ) → Ends scheduler releases k a f → Ends scheduler releases k a g → f ≡ g
+  ends-once k a f g e e′ = left-once k a _ f g e e′
 
 -- what runs while a tick lasts has one tick less before the next
 pub runs-then : (scheduler : Scheduler) (releases : Pattern) (t k a l : ℕ) → duringTick scheduler releases t (stateBefore scheduler releases t) .running ≡ runs k a l → runningBefore scheduler releases (suc t) ≡ runs k a (l - 1)

@@ -77,13 +77,13 @@ module _ (table : List Task) (n : ℕ) (script : List Release) (legal : LegalScr
       record {
         known = λ tick task h. let x = pattern-some script tick task h in rw (x .2 .1) at (legal .known (x .0) (x .1));
         lengths = λ tick task h. let x = pattern-some script tick task h in
-          omega (arith, x .3, legal .lengths (x .0) (x .1) .1, ap (runOf table) (x .2 .1));
+            omega (arith, x .3, legal .lengths (x .0) (x .1) .1, ap (runOf table) (x .2 .1));
         apart = λ t u task h g l.
-          let x = pattern-some script t task h in
-          let y = pattern-some script u task g in
-          let below : x .0 < y .0 = in-order (x .0) (y .0) (x .1) (omega (arith, x .2 .0, y .2 .0)) in
-          let far = legal .apart (x .0) (y .0) below (y .1) (x .2 .1 ∙ sym (y .2 .1)) in
-          omega (arith, far, x .2 .0, y .2 .0, ap (periodOf table) (x .2 .1));
+            let x = pattern-some script t task h in
+            let y = pattern-some script u task g in
+            let below : x .0 < y .0 = in-order (x .0) (y .0) (x .1) (omega (arith, x .2 .0, y .2 .0)) in
+            let far = legal .apart (x .0) (y .0) below (y .1) (x .2 .1 ∙ sym (y .2 .1)) in
+            omega (arith, far, x .2 .0, y .2 .0, ap (periodOf table) (x .2 .1));
       }
 
   pub script-as-pattern : ScriptAsPattern table n script
