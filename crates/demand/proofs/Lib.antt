@@ -5,3 +5,5 @@ pub mod Over
 pub mod Table
 pub mod Largest
 pub mod Meaning
+pub mod Sound
+pub mod Packed

@@ -16,7 +16,7 @@ use Rattle.demand.specs.Test.{Sound, firstMet, windowDemand, window, sta
 use Rattle.demand.specs.Meaning.{FirstMetAt, NeverMet, IsWindow, IsStart, IsResponse, IsPassing, IsWithoutStart, IsLate, VerdictMeans, EveryVerdictMeans, NoStartNever}
 use Rattle.demand.proofs.Releases.{jobs-are}
 use Rattle.demand.proofs.FirstMet.{Says, met-at, met-never, met-says, met-one}
-use Rattle.demand.proofs.Largest.{at-one, LargestIs, largest-says, largest-there}
+use Rattle.demand.proofs.Largest.{at-one, LargestIs, largest-says, largest-there, judged-late, judged-passes}
 use Rattle.demand.proofs.Table.{period-of, JobOf, job-of}
 
 -- verdicts that differ
@@ -28,9 +28,9 @@ module _ (table : List Task) (partitions : List ℕ) (n i : ℕ) where
   unfolding verdict
   verdict-none e = rw e
 
-  pub verdict-at : (L r : ℕ) → window table partitions n i ≡ At L → largestFound (response table partitions n i) (jobs L (periodOf table i)) ≡ At r → verdict table partitions n i ≡ pick (leb r (deadlineOf table i)) (Passes r) Late
+  pub verdict-in : (L : ℕ) → window table partitions n i ≡ At L → verdict table partitions n i ≡ judged (deadlineOf table i) (largestFound (response table partitions n i) (jobs L (periodOf table i)))
   unfolding verdict
-  verdict-at L r e f = rw (e, f)
+  verdict-in L e = rw e
 
   pub window-says : (f : Found) → window table partitions n i ≡ f → Says (windowDemand table partitions n i) 1 f
   unfolding window
@@ -117,14 +117,13 @@ module _ (table : List Task) (partitions : List ℕ) (n i : ℕ) where
       -- one late response is enough
       pub late-one : (q x : ℕ) → q * periodOf table i < L → response table partitions n i q ≡ At x → deadlineOf table i < x → verdict table partitions n i ≡ Late
       late-one q x l e lt =
-          let w = worst-there in
-          let r = worst-is (w .0) (w .1) .each q (inside q .0 l) in
-          let v : _≡_ {A = Found} (At (r .0)) (At x) = sym (r .1) ∙ e in
-          verdict-at L (w .0) (is-window L win) (w .1)
-          ∙ ap (λ (b : Bool). pick b (Passes (w .0)) Late) (lt-leb (w .0) (deadlineOf table i) (omega (arith, at-one (r .0) x v, r .2)))
+          verdict-in L (is-window L win)
+          ∙ judged-late (response table partitions n i) (jobs L (periodOf table i)) (deadlineOf table i) q x
+          (λ p k. (let a = answer p (inside p .1 k) in (a .is, a .found)))
+          (inside q .0 l) e lt
 
       pub passes-with : (m : ℕ) → largestFound (response table partitions n i) (jobs L (periodOf table i)) ≡ At m → m ≤ deadlineOf table i → verdict table partitions n i ≡ Passes m
-      passes-with m e le = verdict-at L m (is-window L win) e ∙ ap (λ (b : Bool). pick b (Passes m) Late) (le-leb _ _ le)
+      passes-with m e le = verdict-in L (is-window L win) ∙ judged-passes (response table partitions n i) (jobs L (periodOf table i)) (deadlineOf table i) m e le
 
     -- the three cases of a verdict
     pub data Cases : Type 0 where
@@ -137,7 +136,7 @@ module _ (table : List Task) (partitions : List ℕ) (n i : ℕ) where
       where
         by-test : (L : ℕ) (win : IsWindow table partitions n i L) (m : ℕ) → largestFound (response table partitions n i) (jobs L (periodOf table i)) ≡ At m → (b : Bool) → leb m (deadlineOf table i) ≡ b → Cases
         by-test L win m e true h = in-time m (passing L win m e (leb-true _ _ h)) (passes-with L win m e (leb-true _ _ h))
-        by-test L win m e false h = too-late (late-by L win m e (leb-false _ _ h)) (verdict-at L m (is-window L win) e ∙ ap (λ (b : Bool). pick b (Passes m) Late) h)
+        by-test L win m e false h = too-late (late-by L win m e (leb-false _ _ h)) (verdict-in L (is-window L win) ∙ (ap (judged (deadlineOf table i)) e ∙ ap (λ (b : Bool). pick b (Passes m) Late) h))
 
         by-window : (f : Found) → window table partitions n i ≡ f → Cases
         by-window Nothing e = without (window-says Nothing e) (verdict-none e)

@@ -2,12 +2,14 @@
 use mathlib.Core.Path.{_≡_}
 use mathlib.Core.List.{List}
 use Prim.Native.Nat.{ℕ, _+_, _-_, _*_, _≤_, _<_}
+use lib.Dec.{leb}
 use lib.ListN.{getD}
 use Rattle.laws.specs.Sums.{sum}
 use Rattle.model.specs.Limits.{mostTasks}
-use Rattle.demand.specs.Kinds.{Task, Found}
+use Rattle.search.specs.Smallest.{smallest}
+use Rattle.demand.specs.Kinds.{Task, Found, Verdict}
 use Rattle.demand.specs.Releases.{releasesBy}
-use Rattle.demand.specs.Test.{firstMet, higherWork, responseFrom}
+use Rattle.demand.specs.Test.{firstMet, higherWork, responseFrom, verdictIn}
 
 -- what is asked of a start at w over a base of B + q·C
 unfoldable pub startOver : (ℕ → ℕ) → ℕ → ℕ → ℕ
@@ -19,6 +21,22 @@ windowOver work blocking period cost t = blocking + releasesBy (t - 1) period * 
 
 unfoldable pub responseOver : (ℕ → ℕ) → ℕ → ℕ → ℕ → ℕ → Found
 responseOver work blocking period cost q = responseFrom (firstMet (startOver work (blocking + q * cost)) 0) cost (q * period)
+
+unfoldable pub verdictOver : (ℕ → ℕ) → ℕ → ℕ → ℕ → ℕ → Verdict
+verdictOver work blocking period cost deadline =
+    verdictIn (firstMet (windowOver work blocking period cost) 1) (responseOver work blocking period cost) period deadline
+
+-- a start looked for up to a limit
+unfoldable pub startWithin : (ℕ → ℕ) → ℕ → ℕ → Found
+startWithin work base limit = smallest (λ w. leb (startOver work base w) w) 0 limit
+
+-- a member's own numbers are within the limits
+pub record Ranges (blocking period cost deadline : ℕ) : Type 0 where
+  pub blocking-most : blocking ≤ 1_000_000
+  pub cost-least : 1 ≤ cost
+  pub cost-most : cost ≤ deadline
+  pub deadline-most : deadline ≤ period
+  pub period-most : period ≤ 1_000_000
 
 -- the work by w of members that were packed into arrays of periods and costs
 unfoldable pub packedWork : List ℕ → List ℕ → ℕ → ℕ → ℕ

@@ -90,3 +90,10 @@ module _ (table : List Task) (partitions : List ℕ) (n i : ℕ) where
 
   unfoldable pub verdict : Verdict
   verdict = verdictIn (window table partitions n i) response (periodOf table i) (deadlineOf table i)
+
+-- whether it passes
+abbrev pub doesPass : Verdict → Bool
+doesPass (Passes worst) = true
+doesPass NoWindow = false
+doesPass NoStart = false
+doesPass Late = false
