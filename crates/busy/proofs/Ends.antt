@@ -1,17 +1,16 @@
 -- A job that starts in time ends in time: it runs unbroken for its own length.
-use Prim.Native.Nat.{ℕ, zero, suc, _+_, _-_, _≤_, _<_}
-use mathlib.Core.Path.{_≡_, refl, sym, _∙_, ap, subst}
+use Prim.Native.Nat.{ℕ, zero, suc, _+_, _≤_, _<_}
+use mathlib.Core.Path.{_≡_, refl, ap}
 use native.Mathlib.Nat.{add-zero}
 use native.Mathlib.Decide.{decLt, ℕ-discrete}
 use native.Mathlib.Omega.{arith}
-use Rattle.laws.specs.Sums.{sum}
 use Rattle.laws.proofs.Sums.{sum-suc}
 use Rattle.laws.proofs.Growth.{sum-grows}
 use Rattle.machine.specs.Step.{Pattern, Running, free, runs, Scheduler, ended, ofMembers, Ends}
 use Rattle.machine.proofs.Highest.{Ranked}
-use Rattle.machine.proofs.View.{View, goes-on, begins, rests, ViewAt, view, runningBefore}
+use Rattle.machine.proofs.View.{goes-on, begins, rests, ViewAt, view, runningBefore}
 use Rattle.machine.proofs.Line.{releasedBefore}
-use Rattle.machine.proofs.Work.{servesTask, leftOf, serves-itself, left-of-itself, serves-other, none-left, serves, servedBefore, RunsInLine}
+use Rattle.machine.proofs.Work.{servesTask, leftOf, left-of-itself, serves-other, none-left, serves, servedBefore, RunsInLine}
 use Rattle.machine.proofs.Once.{runs-in-line}
 use Rattle.busy.specs.Window.{StartsInTime}
 

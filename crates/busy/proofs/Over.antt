@@ -1,9 +1,9 @@
 -- Laws of sums over higher members, and over i with them.
 use Prim.Native.Nat.{ℕ, _+_, _≤_, _<_}
-use mathlib.Core.Path.{_≡_, refl, sym, _∙_, ap}
+use mathlib.Core.Path.{_≡_, _∙_, ap}
 use mathlib.Core.Bool.{Bool, true}
 use native.Mathlib.Omega.{arith}
-use Rattle.laws.specs.Sums.{only, sum}
+use Rattle.laws.specs.Sums.{only}
 use Rattle.laws.proofs.Sums.{sum-le, sum-same, sum-add, sum-zero, sum-in, sum-some}
 use Rattle.laws.proofs.Only.{only-none, only-add, only-some, only-true}
 use Rattle.laws.proofs.Picked.{only-mono}

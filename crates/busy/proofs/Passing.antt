@@ -1,18 +1,14 @@
 -- From the response test's verdict to every job of the machine.
-use Prim.Native.Nat.{ℕ, zero, suc, _+_, _*_, _-_, _≤_, _<_}
-use mathlib.Core.Path.{_≡_, refl, sym, _∙_, ap, subst}
-use mathlib.Core.Bool.{Bool, true}
+use Prim.Native.Nat.{ℕ, _≤_, _<_}
+use mathlib.Core.Path.{_≡_, refl}
 use mathlib.Core.List.{List}
 use native.Mathlib.Omega.{arith}
-use lib.Dec.{eqb}
 use borrow.Author.Tests.{eq-eqb}
-use Rattle.laws.specs.Sums.{only, sum, largest}
 use Rattle.laws.proofs.Only.{only-true}
-use Rattle.demand.specs.declared.Verdict.the-variants.{Passes}
 use Rattle.machine.specs.Kinds.{Task}
-use Rattle.demand.specs.Priority.{deadlineOf, inPartition, higher, lower}
+use Rattle.demand.specs.Priority.{inPartition, higher, lower}
 use Rattle.demand.specs.Releases.{periodOf, costOf}
-use Rattle.demand.specs.Test.{Sound, blocking, higherWork, startDemand, verdict}
+use Rattle.demand.specs.Test.{Sound, blocking, higherWork, startDemand}
 use Rattle.demand.specs.Meaning.{IsPassing}
 use Rattle.demand.specs.Packed.{windowOver}
 use Rattle.demand.proofs.Table.{window-over}

@@ -1,23 +1,22 @@
 -- The machine has the service facts, for every pattern whose lengths are at most the costs.
-use Prim.Native.Nat.{ℕ, zero, suc, _+_, _*_, _-_, _≤_, _<_}
-use mathlib.Core.Path.{_≡_, refl, sym, _∙_, ap, subst}
+use Prim.Native.Nat.{ℕ, zero, suc, _+_, _-_, _≤_, _<_}
+use mathlib.Core.Path.{_≡_, refl, _∙_, ap}
 use mathlib.Core.Bool.{Bool, true, false, _&&_}
-use mathlib.Core.List.{List, [], _∷_}
-use mathlib.Core.Logic.{_⊎_, inl, inr, ⊎-elim}
+use mathlib.Core.List.{[]}
 use native.Mathlib.Decide.{ℕ-discrete}
 use native.Mathlib.Omega.{arith}
 use lib.Dec.{eqb}
-use Rattle.laws.specs.Sums.{only, sum, largest}
+use Rattle.laws.specs.Sums.{only, largest}
 use Rattle.laws.proofs.Sums.{largest-in}
 use Rattle.laws.proofs.Only.{only-true}
 use Rattle.laws.proofs.Picked.{only-le}
-use Rattle.machine.specs.Step.{Pattern, Job, Running, free, runs, Scheduler, ended, ofMembers, joined, occupies}
+use Rattle.machine.specs.Step.{Pattern, Running, free, runs, Scheduler, ended, ofMembers, joined, occupies}
 use Rattle.machine.proofs.Highest.{Ranked, not-both}
-use Rattle.machine.proofs.View.{View, goes-on, begins, rests, ViewAt, view, waitingBefore, runningBefore}
+use Rattle.machine.proofs.View.{goes-on, begins, rests, ViewAt, view, waitingBefore, runningBefore}
 use Rattle.machine.proofs.Line.{lengths, lengths-none, lengths-joined}
 use Rattle.machine.proofs.Work.{servesTask, leftOf, serves-itself, none-left, serves}
 use Rattle.machine.proofs.Once.{runs-in-line, conserved, runs-own}
-use Rattle.busy.specs.Window.{overHigher, overBoth, Service}
+use Rattle.busy.specs.Window.{overBoth, Service}
 use Rattle.busy.proofs.Over.{higher-in, higher-some}
 
 second : (a b : Bool) → (a && b) ≡ true → b ≡ true

@@ -1,11 +1,11 @@
 -- The busy window: from the last tick before which nothing of i and the higher tasks was pending.
 use Prim.Native.Nat.{ℕ, zero, suc, _+_, _*_, _-_, _≤_, _<_}
-use mathlib.Core.Path.{_≡_, refl, sym, _∙_, ap, subst}
+use mathlib.Core.Path.{_≡_, refl, sym, _∙_}
 use mathlib.Core.Bool.{Bool}
 use native.Mathlib.Nat.{add-suc, add-zero}
 use native.Mathlib.Decide.{decLe, decLt}
 use native.Mathlib.Omega.{arith}
-use Rattle.laws.specs.Sums.{only, sum}
+use Rattle.laws.specs.Sums.{sum}
 use Rattle.laws.proofs.Sums.{sum-none, sum-suc}
 use Rattle.laws.proofs.Growth.{sum-grows, sum-crosses}
 use Rattle.busy.specs.Window.{overHigher, overBoth, Service, Arrivals, Tested, StartsInTime, BusyWindow}

@@ -1,9 +1,8 @@
 -- Laws of what a test lets count.
-use mathlib.Core.Path.{_≡_, refl, subst}
+use mathlib.Core.Path.{_≡_, refl}
 use mathlib.Core.Bool.{Bool, true, false}
-use Prim.Native.Nat.{ℕ, zero, suc, _+_, _≤_, _<_}
+use Prim.Native.Nat.{ℕ, _+_, _≤_, _<_}
 use native.Mathlib.Omega.{arith}
-use lib.Dec.{T}
 use Rattle.laws.specs.Sums.{only}
 
 pub only-true : (b : Bool) (x : ℕ) → b ≡ true → only b x ≡ x

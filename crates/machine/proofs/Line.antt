@@ -1,10 +1,10 @@
 -- A task's waiting jobs as work in line: what was released before each of them, counted.
-use Prim.Native.Nat.{ℕ, zero, suc, _+_, _≤_, _<_}
-use mathlib.Core.Path.{_≡_, refl, sym, _∙_, ap, subst, subst₂}
+use Prim.Native.Nat.{ℕ, zero, suc, _+_, _<_}
+use mathlib.Core.Path.{_≡_, refl, sym, subst₂}
 use mathlib.Core.List.{List, [], _∷_, _++_, append-nil}
 use native.Mathlib.Omega.{arith}
 use Rattle.laws.specs.Sums.{sum}
-use Rattle.laws.proofs.Sums.{sum-none, sum-suc}
+use Rattle.laws.proofs.Sums.{sum-suc}
 use Rattle.machine.specs.Step.{Pattern, Job, job, released}
 
 -- the lengths of jobs, together

@@ -1,16 +1,15 @@
 -- A job ends once, and a job that runs is one of a member, which released it.
-use Prim.Native.Nat.{ℕ, zero, suc, _+_, _-_, _≤_, _<_}
+use Prim.Native.Nat.{ℕ, zero, suc, _+_, _-_, _<_}
 use mathlib.Core.Bool.{true}
-use mathlib.Core.Path.{_≡_, refl, sym, _∙_, ap, subst}
+use mathlib.Core.Path.{_≡_, ap, subst}
 use native.Mathlib.Decide.{decLt}
 use native.Mathlib.Omega.{arith}
-use Rattle.laws.specs.Sums.{sum}
 use Rattle.laws.proofs.Sums.{sum-suc}
 use Rattle.laws.proofs.Growth.{sum-grows}
 use Rattle.laws.proofs.Only.{only-some}
 use Rattle.machine.specs.Step.{Pattern, runs, Scheduler, ofMembers, duringTick, passed, step, stateBefore, Ends}
 use Rattle.machine.proofs.Highest.{Ranked}
-use Rattle.machine.proofs.View.{View, goes-on, begins, rests, ViewAt, view, waitingBefore, runningBefore}
+use Rattle.machine.proofs.View.{goes-on, begins, rests, ViewAt, view, waitingBefore, runningBefore}
 use Rattle.machine.proofs.Line.{releasedBefore, lengths, line-lengths}
 use Rattle.machine.proofs.Work.{servesTask, leftOf, serves-itself, left-of-itself, theirs, serves, servedBefore, RunsInLine, counted}
 

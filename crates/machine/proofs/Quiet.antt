@@ -1,13 +1,13 @@
 -- Ticks in which nothing can happen, and the machine at rest.
 use Prim.Native.Nat.{ℕ, zero, suc, _+_, _-_, _≤_, _<_}
-use mathlib.Core.Path.{_≡_, refl, sym, _∙_, ap, subst, fun-ext}
-use mathlib.Core.List.{List, [], _∷_, _++_, append-nil}
+use mathlib.Core.Path.{_≡_, refl, sym, _∙_, ap}
+use mathlib.Core.List.{List, [], append-nil}
 use native.Mathlib.Nat.{add-suc, add-zero}
 use native.Mathlib.Omega.{arith}
-use Rattle.machine.specs.Step.{Pattern, Job, Running, free, runs, State, Scheduler, ended, released, ofMembers, joined, stateBefore}
+use Rattle.machine.specs.Step.{Pattern, Job, Running, free, runs, Scheduler, ended, released, ofMembers, joined, stateBefore}
 use Rattle.machine.specs.Claims.{Lasts, lowered}
 use Rattle.machine.proofs.Highest.{Ranked}
-use Rattle.machine.proofs.View.{View, goes-on, begins, rests, ViewAt, view, waitingBefore, runningBefore}
+use Rattle.machine.proofs.View.{goes-on, begins, rests, ViewAt, view, waitingBefore, runningBefore}
 
 -- a tick without a release of a task leaves its waiting jobs
 pub joined-none : (releases : Pattern) (t : ℕ) (waiting : ℕ → List Job) (m : ℕ) → releases t m ≡ 0 → joined releases t waiting m ≡ waiting m

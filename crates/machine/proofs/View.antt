@@ -1,15 +1,13 @@
 -- What a step does: the three ways that it can go.
 use Prim.Native.Nat.{ℕ, zero, suc, _-_, _<_}
-use mathlib.Core.Path.{_≡_, refl, sym, _∙_, ap}
-use mathlib.Core.Bool.{Bool, true, false}
+use mathlib.Core.Path.{_≡_, refl, ap}
+use mathlib.Core.Bool.{true}
 use mathlib.Core.List.{List, [], _∷_}
 use mathlib.Core.Option.{Option, none, some}
 use mathlib.Core.Logic.{_≢_}
 use native.Mathlib.Omega.{arith}
-use lib.Dec.{eqb}
 use borrow.Author.Tests.{eq-eqb, ne-eqb}
-use Rattle.laws.specs.Choice.{pick}
-use Rattle.machine.specs.Step.{Pattern, Job, Running, free, runs, State, Scheduler, ended, ofMembers, joined, highest, occupies, replaced, oldestStarts, starts, startsIfFree, duringTick, passed, step, stateBefore}
+use Rattle.machine.specs.Step.{Pattern, Job, Running, free, runs, State, Scheduler, ended, ofMembers, joined, occupies, replaced, oldestStarts, starts, startsIfFree, duringTick, passed, step, stateBefore}
 use Rattle.machine.proofs.Highest.{Ranked, Chosen, chosen}
 
 pub replaced-same : (waiting : ℕ → List Job) (k : ℕ) (js : List Job) → replaced waiting k js k ≡ js

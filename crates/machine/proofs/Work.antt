@@ -1,8 +1,8 @@
 -- The machine's work, counted: of each task, what was released is what was served, what is left of the running job, and what waits in line.
-use Prim.Native.Nat.{ℕ, zero, suc, _+_, _-_, _≤_, _<_}
-use mathlib.Core.Path.{_≡_, refl, sym, _∙_, ap, subst}
+use Prim.Native.Nat.{ℕ, zero, suc, _+_, _-_, _<_}
+use mathlib.Core.Path.{_≡_, refl, sym, ap, subst}
 use mathlib.Core.Bool.{Bool, true, false}
-use mathlib.Core.List.{List, [], _∷_, _++_}
+use mathlib.Core.List.{List, _∷_}
 use mathlib.Core.Logic.{_≢_}
 use native.Mathlib.Decide.{ℕ-discrete}
 use native.Mathlib.Omega.{arith}
@@ -10,10 +10,10 @@ use lib.Dec.{eqb}
 use borrow.Author.Tests.{eq-eqb, ne-eqb}
 use Rattle.laws.specs.Sums.{only, sum}
 use Rattle.laws.proofs.Sums.{sum-none, sum-suc}
-use Rattle.laws.proofs.Only.{only-true, only-false, only-none, only-add}
-use Rattle.machine.specs.Step.{Pattern, Job, Running, free, runs, State, Scheduler, ended, ofMembers, joined, occupies, stateBefore}
+use Rattle.laws.proofs.Only.{only-true, only-false, only-none}
+use Rattle.machine.specs.Step.{Pattern, Job, Running, free, runs, Scheduler, ended, ofMembers, joined, occupies, stateBefore}
 use Rattle.machine.proofs.Highest.{Ranked}
-use Rattle.machine.proofs.View.{View, goes-on, begins, rests, ViewAt, view, waitingBefore, runningBefore}
+use Rattle.machine.proofs.View.{goes-on, begins, rests, ViewAt, view, waitingBefore, runningBefore}
 use Rattle.machine.proofs.Line.{releasedBefore, InLine, line-joined, line-at}
 
 -- 1 where what runs is a job of task k, and the time left of such a job

@@ -18,11 +18,11 @@ FinishesOnce = (table : List Task) (partitions : List ℕ) (n : ℕ) (releases :
 abbrev pub AgreeOn : List ℕ → ℕ → Pattern → Pattern → Type 0
 AgreeOn partitions p one other = (tick task : ℕ) → partitionOf partitions task ≡ p → one tick task ≡ other tick task
 
--- a tick takes each partition on by its own step, whatever the others hold and whatever is released to them
+-- a tick takes each partition on by its own step, whatever the other partitions hold and whatever is released to them
 pub record StepsApart (table : List Task) (partitions : List ℕ) (n p : ℕ) : Type 0 where
   pub own-step : (releases : Pattern) (tick : ℕ)
       → boxBefore table partitions n releases (suc tick) p ≡ step (schedulerOf table partitions n p) releases tick (boxBefore table partitions n releases tick p)
-  pub own-releases : (one other : Pattern) → AgreeOn partitions p one other → (tick : ℕ) (before : State)
+  pub own-releases : (one other : Pattern) (tick : ℕ) → ((task : ℕ) → partitionOf partitions task ≡ p → one tick task ≡ other tick task) → (before : State)
       → step (schedulerOf table partitions n p) one tick before ≡ step (schedulerOf table partitions n p) other tick before
 
 abbrev pub EachStepsApart : Type 0
@@ -50,7 +50,7 @@ unfoldable pub lowered : ℕ → Running → Running
 lowered ticks free = free
 lowered ticks (runs task release left) = runs task release (left - ticks)
 
--- with no release from a tick on and no end before the last of so many ticks, nothing can start: only the time left falls
+-- while for so many ticks nothing is released and nothing ends, nothing can start: only the time left falls
 abbrev pub QuietTicks : Type 0
 QuietTicks = (table : List Task) (partitions : List ℕ) (n : ℕ) (releases : Pattern) (p tick ticks : ℕ)
     → ((later task : ℕ) → tick ≤ later → later < tick + ticks → partitionOf partitions task ≡ p → releases later task ≡ 0)

@@ -1,7 +1,7 @@
--- Which releases are legal: of a pattern, and of a script, "whose records" are (tick, task, length).
+-- Which releases are legal: those of a pattern, and those of a script, a list of records (tick, task, length).
 use Prim.Native.Nat.{ℕ, _+_, _≤_, _<_}
 use mathlib.Core.Path.{_≡_}
-use mathlib.Core.Bool.{Bool, _&&_}
+use mathlib.Core.Bool.{_&&_}
 use mathlib.Core.List.{List, [], _∷_}
 use mathlib.Core.Logic.{_⊎_}
 use lib.Dec.{eqb}
@@ -35,7 +35,7 @@ recordOf script i = getD script i zeroRelease
 abbrev pub Before : Release → Release → Type 0
 Before r s = (r .tick < s .tick) ⊎ ((r .tick ≡ s .tick) × (r .task < s .task))
 
--- "A script is legal if"
+-- "A script is legal if ..", of the n tasks of a table
 pub record LegalScript (table : List Task) (n : ℕ) (script : List Release) : Type 0 where
   pub known : (i : ℕ) → i < length script → recordOf script i .task < n
   -- "its records rise strictly by tick, then task"

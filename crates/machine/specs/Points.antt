@@ -1,6 +1,6 @@
 -- "P9: in the sample build, releases (tick, task, length) (0,1,4), (1,0,4), (1,2,3) finish at 4, 8, 4."
 use Prim.Native.Nat.{ℕ}
-use mathlib.Core.List.{List, [], _∷_, _++_}
+use mathlib.Core.List.{List, [], _∷_}
 use lib.ListN.{replicate}
 use Rattle.model.specs.Limits.{zeroTask}
 use Rattle.machine.specs.Kinds.{Task, Release}
