@@ -1,0 +1,109 @@
+// What the test needs to know of the other members: the blocking by lower ones, and the periods and costs of higher ones.
+use crate::ranks;
+use model::Order;
+use model::Task;
+ghost use mathlib.Core.Path.{_≡_};
+ghost use Prim.Native.Nat.{_≤_, _<_, max};
+ghost use Rattle.laws.specs.Sums.{only};
+ghost use Rattle.demand.specs.Priority.{lower};
+ghost use Rattle.demand.specs.Releases.{cost, costOf};
+ghost use Rattle.demand.specs.Test.{TaskSound, Sound, blocking as blockingOf};
+ghost use Rattle.demand.specs.Packed.{Packs};
+
+pub fn wide(x: u32) -> u64
+    ensures { λ r. ⌜ r ≡ x ⌝ }
+{
+    x as u64
+}
+
+pub fn larger(a: u64, b: u64) -> u64
+    ensures { λ r. ⌜ r ≡ max a b ⌝ }
+{
+    if a < b { b } else { a }
+}
+
+// C as the test reads it.
+pub fn cost_of(task: Task) -> u64
+    requires { ⌜ TaskSound task ⌝ }
+    ensures { λ r. ⌜ r ≡ cost task ⌝ }
+{
+    wide(task.run)
+}
+
+// The cost of the other task if it is a lower-priority member, else 0.
+fn lower_cost(
+    table: [Task; Order::MOST_TASKS],
+    partitions: [u32; Order::MOST_TASKS],
+    tasks: usize,
+    task: usize,
+    other: usize,
+) -> u64
+    requires { ⌜ Sound table tasks × (task < tasks) × (other < tasks) ⌝ }
+    ensures { λ r. ⌜ r ≡ only (lower table partitions task other) (costOf table other) ⌝ }
+{
+    if ranks::is_lower(table, partitions, task, other) {
+        let its = table[other];
+        return cost_of(its);
+    }
+    0
+}
+
+// The largest cost among lower-priority members, less 1.
+pub fn blocking(
+    table: [Task; Order::MOST_TASKS],
+    partitions: [u32; Order::MOST_TASKS],
+    tasks: usize,
+    task: usize,
+) -> u64
+    requires { ⌜ Sound table tasks × (task < tasks) ⌝ }
+    ensures { λ r. ⌜ r ≡ blockingOf table partitions tasks task ⌝ }
+{
+    let mut most: u64 = 0;
+    let mut other: usize = 0;
+    while other < tasks {
+        most = larger(most, lower_cost(table, partitions, tasks, task, other));
+        other += 1;
+    }
+    if most == 0 {
+        return 0;
+    }
+    most - 1
+}
+
+// The members that outrank one, by period and cost: flat, for the searches.
+pub struct HigherMembers {
+    pub count: usize,
+    pub periods: [u64; Order::MOST_TASKS],
+    pub costs: [u64; Order::MOST_TASKS],
+}
+
+pub fn pack_higher(
+    table: [Task; Order::MOST_TASKS],
+    partitions: [u32; Order::MOST_TASKS],
+    tasks: usize,
+    task: usize,
+) -> HigherMembers
+    requires { ⌜ Sound table tasks × (task < tasks) ⌝ }
+    ensures { λ r. ⌜ Packs table partitions tasks task (r .periods) (r .costs) (r .count) ⌝ }
+{
+    let mut periods = [0u64; Order::MOST_TASKS];
+    let mut costs = [0u64; Order::MOST_TASKS];
+    let mut count: usize = 0;
+    let mut other: usize = 0;
+    while other < tasks {
+        if ranks::is_higher(table, partitions, task, other) {
+            let its = table[other];
+            periods[count] = wide(its.period);
+            costs[count] = cost_of(its);
+            count += 1;
+            other += 1;
+            continue;
+        }
+        other += 1;
+    }
+    HigherMembers {
+        count,
+        periods,
+        costs,
+    }
+}
