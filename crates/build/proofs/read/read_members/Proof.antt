@@ -1,0 +1,65 @@
+use borrow.Author.Needs.{needs}
+use Rattle.build.proofs.read.read_members.Statement.{statement}
+use Rattle.build.proofs.read.read_members.Tie as tie
+use Rattle.build.proofs.read.read_members.Reads as reads
+use Rattle.build.proofs.read.read_members.Lts as lts
+use Rattle.build.proofs.read.read_member.Reads as read-member-reads
+use Rattle.model.proofs.build.Member.zero.Reads as zero-reads
+
+abbrev Inv-loop : tie.InvT-loop
+Inv-loop build partitions tasks members₀ i₀ members i = ?
+
+abbrev μ-loop : tie.MeasureT-loop
+μ-loop build partitions tasks members₀ i₀ members i = ?
+
+-- src/read.rt:122:24
+zero-requires : tie.Need-zero-requires Inv-loop μ-loop
+zero-requires c κs = search needs
+
+-- src/read.rt:124:5
+loop-holds : tie.Need-loop-holds Inv-loop μ-loop
+loop-holds c = search needs
+
+-- src/read.rt:125:13
+read-member-requires : tie.Need-read-member-requires Inv-loop μ-loop
+read-member-requires c κs = search needs
+
+-- src/read.rt:126:9
+mul-members : tie.Need-mul-members Inv-loop μ-loop
+mul-members c = search needs
+
+-- src/read.rt:126:9
+array-set-from-members : tie.Need-array-set-from-members Inv-loop μ-loop
+array-set-from-members c = search needs
+
+-- src/read.rt:127:9
+add-i : tie.Need-add-i Inv-loop μ-loop
+add-i c = search needs
+
+-- src/read.rt:124:5
+loop-less : tie.Need-loop-less Inv-loop μ-loop
+loop-less c = search needs
+
+-- src/read.rt:124:5
+loop-again : tie.Need-loop-again Inv-loop μ-loop
+loop-again c = search needs
+
+-- src/read.rt:118:1
+returns : tie.Need-returns Inv-loop μ-loop
+returns c = search needs
+
+pub read-members-spec : {M : Type 1} → statement M
+read-members-spec =
+    tie.close
+    (tie.spec
+    Inv-loop
+    μ-loop
+    zero-requires
+    loop-holds
+    read-member-requires
+    mul-members
+    array-set-from-members
+    add-i
+    loop-less
+    loop-again
+    returns)

@@ -1,0 +1,65 @@
+use borrow.Author.Needs.{needs}
+use Rattle.build.proofs.read.read_places.Statement.{statement}
+use Rattle.build.proofs.read.read_places.Tie as tie
+use Rattle.build.proofs.read.read_places.Reads as reads
+use Rattle.build.proofs.read.read_places.Lts as lts
+use Rattle.build.proofs.read.read_partition.Reads as read-partition-reads
+use Rattle.model.proofs.build.Partition.zero.Reads as zero-reads
+
+abbrev Inv-loop : tie.InvT-loop
+Inv-loop build partitions places₀ i₀ places i = ?
+
+abbrev μ-loop : tie.MeasureT-loop
+μ-loop build partitions places₀ i₀ places i = ?
+
+-- src/read.rt:107:23
+zero-requires : tie.Need-zero-requires Inv-loop μ-loop
+zero-requires c κs = search needs
+
+-- src/read.rt:109:5
+loop-holds : tie.Need-loop-holds Inv-loop μ-loop
+loop-holds c = search needs
+
+-- src/read.rt:110:13
+read-partition-requires : tie.Need-read-partition-requires Inv-loop μ-loop
+read-partition-requires c κs = search needs
+
+-- src/read.rt:111:9
+mul-places : tie.Need-mul-places Inv-loop μ-loop
+mul-places c = search needs
+
+-- src/read.rt:111:9
+array-set-from-places : tie.Need-array-set-from-places Inv-loop μ-loop
+array-set-from-places c = search needs
+
+-- src/read.rt:112:9
+add-i : tie.Need-add-i Inv-loop μ-loop
+add-i c = search needs
+
+-- src/read.rt:109:5
+loop-less : tie.Need-loop-less Inv-loop μ-loop
+loop-less c = search needs
+
+-- src/read.rt:109:5
+loop-again : tie.Need-loop-again Inv-loop μ-loop
+loop-again c = search needs
+
+-- src/read.rt:103:1
+returns : tie.Need-returns Inv-loop μ-loop
+returns c = search needs
+
+pub read-places-spec : {M : Type 1} → statement M
+read-places-spec =
+    tie.close
+    (tie.spec
+    Inv-loop
+    μ-loop
+    zero-requires
+    loop-holds
+    read-partition-requires
+    mul-places
+    array-set-from-places
+    add-i
+    loop-less
+    loop-again
+    returns)

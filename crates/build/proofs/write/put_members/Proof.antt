@@ -1,0 +1,84 @@
+use borrow.Author.Needs.{needs}
+use Rattle.build.proofs.write.put_members.Statement.{statement}
+use Rattle.build.proofs.write.put_members.Tie as tie
+use Rattle.build.proofs.write.put_members.Reads as reads
+use Rattle.build.proofs.write.put_members.Lts as lts
+use Rattle.build.proofs.write.put_member.Reads as put-member-reads
+
+abbrev Inv-loop : tie.InvT-loop
+Inv-loop out₀ tasks members i₀ out i = ?
+
+abbrev μ-loop : tie.MeasureT-loop
+μ-loop out₀ tasks members i₀ out i = ?
+
+-- src/write.rt:67:5
+loop-holds : tie.Need-loop-holds Inv-loop μ-loop
+loop-holds c = search needs
+
+-- src/write.rt:68:22
+mul-member : tie.Need-mul-member Inv-loop μ-loop
+mul-member c = search needs
+
+-- src/write.rt:68:22
+array-copy-out-member : tie.Need-array-copy-out-member Inv-loop μ-loop
+array-copy-out-member c = search needs
+
+-- src/write.rt:69:18
+mul-at : tie.Need-mul-at Inv-loop μ-loop
+mul-at c = search needs
+
+-- src/write.rt:70:20
+sub-put-member : tie.Need-sub-put-member Inv-loop μ-loop
+sub-put-member c = search needs
+
+-- src/write.rt:70:20
+part-put-member-start : tie.Need-part-put-member-start Inv-loop μ-loop
+part-put-member-start c = search needs
+
+-- src/write.rt:70:20
+part-put-member-end : tie.Need-part-put-member-end Inv-loop μ-loop
+part-put-member-end c = search needs
+
+-- src/write.rt:70:9
+put-member-requires : tie.Need-put-member-requires Inv-loop μ-loop
+put-member-requires c κs = search needs
+
+-- src/write.rt:71:9
+add-i : tie.Need-add-i Inv-loop μ-loop
+add-i c = search needs
+
+-- src/write.rt:67:5
+loop-less : tie.Need-loop-less Inv-loop μ-loop
+loop-less c = search needs
+
+-- src/write.rt:67:5
+loop-again : tie.Need-loop-again Inv-loop μ-loop
+loop-again c = search needs
+
+-- src/write.rt:62:1
+same-length : tie.Need-same-length Inv-loop μ-loop
+same-length c = search needs
+
+-- src/write.rt:62:1
+returns : tie.Need-returns Inv-loop μ-loop
+returns c = search needs
+
+pub put-members-spec : {M : Type 1} → statement M
+put-members-spec =
+    tie.close
+    (tie.spec
+    Inv-loop
+    μ-loop
+    loop-holds
+    mul-member
+    array-copy-out-member
+    mul-at
+    sub-put-member
+    part-put-member-start
+    part-put-member-end
+    put-member-requires
+    add-i
+    loop-less
+    loop-again
+    same-length
+    returns)
