@@ -1,3 +1,4 @@
+use Rattle.build.specs.Build.{memberSpareAt}
 use borrow.Author.Needs.{needs}
 use Rattle.build.proofs.read.member_spare.Statement.{statement}
 use Rattle.build.proofs.read.member_spare.Tie as tie
@@ -24,7 +25,8 @@ take-requires c κs = search needs
 
 -- src/read.rt:91:1
 returns : tie.Need-returns
-returns c = search needs
+unfolding memberSpareAt
+returns c = cc
 
 pub member-spare-spec : {M : Type 1} → statement M
 member-spare-spec = tie.close (tie.spec bytes-requires mul-t7 add-t8 take-requires returns)

@@ -1,3 +1,4 @@
+use Rattle.build.specs.Build.{partitionSpareAt}
 use borrow.Author.Needs.{needs}
 use Rattle.build.proofs.read.partition_spare.Statement.{statement}
 use Rattle.build.proofs.read.partition_spare.Tie as tie
@@ -27,7 +28,8 @@ take-requires c κs = search needs
 
 -- src/read.rt:79:1
 returns : tie.Need-returns
-returns c = search needs
+unfolding partitionSpareAt
+returns c = c .take .ensures .0
 
 pub partition-spare-spec : {M : Type 1} → statement M
 partition-spare-spec = tie.close (tie.spec mul-t5 add-t6 mul-t7 add-t8 take-requires returns)

@@ -1,3 +1,4 @@
+use Rattle.build.specs.Build.{memberAt}
 use borrow.Author.Needs.{needs}
 use Rattle.build.proofs.read.read_member.Statement.{statement}
 use Rattle.build.proofs.read.read_member.Tie as tie
@@ -28,7 +29,8 @@ take-requires-3 c κs = search needs
 
 -- src/read.rt:59:1
 returns : tie.Need-returns
-returns c = search needs
+unfolding memberAt
+returns c = cc
 
 pub read-member-spec : {M : Type 1} → statement M
 read-member-spec =

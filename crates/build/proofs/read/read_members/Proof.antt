@@ -1,3 +1,13 @@
+use Rattle.build.specs.Build.{memberAt}
+use Rattle.model.specs.Limits.{zeroMember}
+use Rattle.laws.proofs.Joined.{filled-none, filled-more}
+use Rattle.laws.specs.Joined.{filled}
+use denote.Ref.{now}
+use native.Mathlib.Omega.{arith}
+use native.Mathlib.Nat.{le-antisymm}
+use mathlib.Core.Path.{_≡_, ap, _∙_}
+use Prim.Native.Nat.{_≤_, _-_}
+use lib.ListN.{replicate}
 use borrow.Author.Needs.{needs}
 use Rattle.build.proofs.read.read_members.Statement.{statement}
 use Rattle.build.proofs.read.read_members.Tie as tie
@@ -7,10 +17,10 @@ use Rattle.build.proofs.read.read_member.Reads as read-member-reads
 use Rattle.model.proofs.build.Member.zero.Reads as zero-reads
 
 abbrev Inv-loop : tie.InvT-loop
-Inv-loop build partitions tasks members₀ i₀ members i = ?
+Inv-loop build partitions tasks members₀ i₀ members i = (i ≤ tasks) × (members ≡ filled (memberAt build partitions) zeroMember 32 i)
 
 abbrev μ-loop : tie.MeasureT-loop
-μ-loop build partitions tasks members₀ i₀ members i = ?
+μ-loop build partitions tasks members₀ i₀ members i = tasks - i
 
 -- src/read.rt:122:24
 zero-requires : tie.Need-zero-requires Inv-loop μ-loop
@@ -18,7 +28,7 @@ zero-requires c κs = search needs
 
 -- src/read.rt:124:5
 loop-holds : tie.Need-loop-holds Inv-loop μ-loop
-loop-holds c = search needs
+loop-holds c = (search needs, ap (replicate 32) (c .zero .ensures) ∙ filled-none (memberAt (now (c .before .before .args .build)) (c .before .before .args .partitions)) zeroMember 32)
 
 -- src/read.rt:125:13
 read-member-requires : tie.Need-read-member-requires Inv-loop μ-loop
@@ -42,11 +52,15 @@ loop-less c = search needs
 
 -- src/read.rt:124:5
 loop-again : tie.Need-loop-again Inv-loop μ-loop
-loop-again c = search needs
+loop-again c =
+    let f = memberAt (now (c .before .before .before .before .before .args .build)) (c .before .before .before .before .before .args .partitions) in
+    (search needs, cc (filled-more f zeroMember 32 (c .before .before .loop .i) (omega arith)))
 
 -- src/read.rt:118:1
 returns : tie.Need-returns Inv-loop μ-loop
-returns c = search needs
+returns c =
+    let all : c .before .loop .i ≡ c .before .before .before .before .args .tasks = le-antisymm (c .before .loop .inv .0) (c .loop-test .left) in
+    c .before .loop .inv .1 ∙ rw all
 
 pub read-members-spec : {M : Type 1} → statement M
 read-members-spec =

@@ -1,3 +1,4 @@
+use Rattle.build.specs.Build.{partitionAt}
 use borrow.Author.Needs.{needs}
 use Rattle.build.proofs.read.read_partition.Statement.{statement}
 use Rattle.build.proofs.read.read_partition.Tie as tie
@@ -27,7 +28,8 @@ take-requires-2 c κs = search needs
 
 -- src/read.rt:42:1
 returns : tie.Need-returns
-returns c = search needs
+unfolding partitionAt
+returns c = cc
 
 pub read-partition-spec : {M : Type 1} → statement M
 read-partition-spec =

@@ -1,3 +1,13 @@
+use Rattle.build.specs.Build.{partitionAt}
+use Rattle.model.specs.Limits.{zeroPartition}
+use Rattle.laws.proofs.Joined.{filled-none, filled-more}
+use Rattle.laws.specs.Joined.{filled}
+use denote.Ref.{now}
+use native.Mathlib.Omega.{arith}
+use native.Mathlib.Nat.{le-antisymm}
+use mathlib.Core.Path.{_≡_, ap, _∙_}
+use Prim.Native.Nat.{_≤_, _-_}
+use lib.ListN.{replicate}
 use borrow.Author.Needs.{needs}
 use Rattle.build.proofs.read.read_places.Statement.{statement}
 use Rattle.build.proofs.read.read_places.Tie as tie
@@ -7,10 +17,10 @@ use Rattle.build.proofs.read.read_partition.Reads as read-partition-rea
 use Rattle.model.proofs.build.Partition.zero.Reads as zero-reads
 
 abbrev Inv-loop : tie.InvT-loop
-Inv-loop build partitions places₀ i₀ places i = ?
+Inv-loop build partitions places₀ i₀ places i = (i ≤ partitions) × (places ≡ filled (partitionAt build) zeroPartition 32 i)
 
 abbrev μ-loop : tie.MeasureT-loop
-μ-loop build partitions places₀ i₀ places i = ?
+μ-loop build partitions places₀ i₀ places i = partitions - i
 
 -- src/read.rt:107:23
 zero-requires : tie.Need-zero-requires Inv-loop μ-loop
@@ -18,7 +28,7 @@ zero-requires c κs = search needs
 
 -- src/read.rt:109:5
 loop-holds : tie.Need-loop-holds Inv-loop μ-loop
-loop-holds c = search needs
+loop-holds c = (search needs, ap (replicate 32) (c .zero .ensures) ∙ filled-none (partitionAt (now (c .before .before .args .build))) zeroPartition 32)
 
 -- src/read.rt:110:13
 read-partition-requires : tie.Need-read-partition-requires Inv-loop μ-loop
@@ -42,11 +52,15 @@ loop-less c = search needs
 
 -- src/read.rt:109:5
 loop-again : tie.Need-loop-again Inv-loop μ-loop
-loop-again c = search needs
+loop-again c =
+    let f = partitionAt (now (c .before .before .before .before .before .args .build)) in
+    (search needs, cc (filled-more f zeroPartition 32 (c .before .before .loop .i) (omega arith)))
 
 -- src/read.rt:103:1
 returns : tie.Need-returns Inv-loop μ-loop
-returns c = search needs
+returns c =
+    let all : c .before .loop .i ≡ c .before .before .before .before .args .partitions = le-antisymm (c .before .loop .inv .0) (c .loop-test .left) in
+    c .before .loop .inv .1 ∙ rw all
 
 pub read-places-spec : {M : Type 1} → statement M
 read-places-spec =

@@ -1,3 +1,4 @@
+use Rattle.build.proofs.Records.{header-number}
 use borrow.Author.Needs.{needs}
 use Rattle.build.proofs.write.put_header.Statement.{statement}
 use Rattle.build.proofs.write.put_header.Tie as tie
@@ -48,7 +49,9 @@ same-length c = search needs
 
 -- src/write.rt:21:1
 returns : tie.Need-returns
-returns c = search needs
+returns c =
+    let a = c .before .before .before .before .before .before .before .before .args in
+    cc (header-number (a .processors) (a .tasks) (a .partitions))
 
 pub put-header-spec : {M : Type 1} → statement M
 put-header-spec =

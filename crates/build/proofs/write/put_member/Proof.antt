@@ -1,3 +1,4 @@
+use Rattle.build.proofs.Records.{member-number}
 use borrow.Author.Needs.{needs}
 use Rattle.build.proofs.write.put_member.Statement.{statement}
 use Rattle.build.proofs.write.put_member.Tie as tie
@@ -48,7 +49,9 @@ same-length c = search needs
 
 -- src/write.rt:39:1
 returns : tie.Need-returns
-returns c = search needs
+returns c =
+    let a = c .before .before .before .before .before .before .before .before .args in
+    cc (member-number (a .member))
 
 pub put-member-spec : {M : Type 1} → statement M
 put-member-spec =

@@ -1,3 +1,14 @@
+use Rattle.build.proofs.Records.{members-none, members-more, length-members}
+use Rattle.build.specs.Build.{memberOf, memberSlots, memberBytes}
+use Rattle.bits.specs.Packed.{bytesOf}
+use Rattle.laws.proofs.Front.{part-from, front-step}
+use denote.Ref.{now}
+use lib.ListN.{length, drop, length-drop}
+use native.Mathlib.Omega.{arith}
+use native.Mathlib.Nat.{le-antisymm}
+use mathlib.Core.List.{_++_}
+use mathlib.Core.Path.{_≡_, refl, ap, _∙_}
+use Prim.Native.Nat.{ℕ, _+_, _-_, _*_, _≤_}
 use borrow.Author.Needs.{needs}
 use Rattle.build.proofs.write.put_members.Statement.{statement}
 use Rattle.build.proofs.write.put_members.Tie as tie
@@ -6,14 +17,14 @@ use Rattle.build.proofs.write.put_members.Lts as lts
 use Rattle.build.proofs.write.put_member.Reads as put-member-reads
 
 abbrev Inv-loop : tie.InvT-loop
-Inv-loop out₀ tasks members i₀ out i = ?
+Inv-loop out₀ tasks members i₀ out i = (i ≤ tasks) × (length out ≡ length out₀) × (out ≡ memberBytes members i ++ drop (4 * i) out₀)
 
 abbrev μ-loop : tie.MeasureT-loop
-μ-loop out₀ tasks members i₀ out i = ?
+μ-loop out₀ tasks members i₀ out i = tasks - i
 
 -- src/write.rt:67:5
 loop-holds : tie.Need-loop-holds Inv-loop μ-loop
-loop-holds c = search needs
+loop-holds c = (search needs, refl, rw members-none)
 
 -- src/write.rt:68:22
 mul-member : tie.Need-mul-member Inv-loop μ-loop
@@ -41,7 +52,12 @@ part-put-member-end c = search needs
 
 -- src/write.rt:70:9
 put-member-requires : tie.Need-put-member-requires Inv-loop μ-loop
-put-member-requires c κs = search needs
+put-member-requires c κs =
+    let w = c .before .before in
+    let a = w .before .before .before in
+    let out = w .before .loop .out in
+    let i = w .before .loop .i in
+    (rw (part-from (4 * i) out, length-drop) (omega arith), a .pre .2 i (w .loop-test .taken))
 
 -- src/write.rt:71:9
 add-i : tie.Need-add-i Inv-loop μ-loop
@@ -53,7 +69,14 @@ loop-less c = search needs
 
 -- src/write.rt:67:5
 loop-again : tie.Need-loop-again Inv-loop μ-loop
-loop-again c = search needs
+loop-again c =
+    let w = c .before .before .before .before .before in
+    let a = w .before .before .before .args in
+    let out = w .before .loop .out in
+    let i = w .before .loop .i in
+    let s = front-step (memberBytes (a .t2) i) (bytesOf (memberSlots (memberOf (a .t2) i))) (now (a .out)) out (c .before .before .put-member .last .0) (4 * i) 4 (length-members (a .t2) i) (w .before .loop .inv .2) (c .before .before .put-member .ensures) in
+    let n : 4 * (i + 1) ≡ 4 * i + 4 = omega arith in
+    (search needs, c .before .out .given .1 ∙ w .before .loop .inv .1, s ∙ rw (members-more (a .t2) i, n))
 
 -- src/write.rt:62:1
 same-length : tie.Need-same-length Inv-loop μ-loop
@@ -61,7 +84,9 @@ same-length c = search needs
 
 -- src/write.rt:62:1
 returns : tie.Need-returns Inv-loop μ-loop
-returns c = search needs
+returns c =
+    let a = c .before .before .before .args in
+    c .before .loop .inv .2 ∙ ap (λ (n : ℕ). memberBytes (a .t2) n ++ drop (4 * n) (now (a .out))) (le-antisymm (c .before .loop .inv .0) (c .loop-test .left))
 
 pub put-members-spec : {M : Type 1} → statement M
 put-members-spec =

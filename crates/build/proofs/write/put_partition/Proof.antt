@@ -1,3 +1,4 @@
+use Rattle.build.proofs.Records.{partition-number}
 use borrow.Author.Needs.{needs}
 use Rattle.build.proofs.write.put_partition.Statement.{statement}
 use Rattle.build.proofs.write.put_partition.Tie as tie
@@ -36,7 +37,9 @@ same-length c = search needs
 
 -- src/write.rt:30:1
 returns : tie.Need-returns
-returns c = search needs
+returns c =
+    let a = c .before .before .before .before .before .before .before .args in
+    cc (partition-number (a .place))
 
 pub put-partition-spec : {M : Type 1} → statement M
 put-partition-spec =

@@ -1,3 +1,14 @@
+use Rattle.build.proofs.Records.{partitions-none, partitions-more, length-partitions}
+use Rattle.build.specs.Build.{placeOf, partitionSlots, partitionBytes}
+use Rattle.bits.specs.Packed.{bytesOf}
+use Rattle.laws.proofs.Front.{part-from, front-step}
+use denote.Ref.{now}
+use lib.ListN.{length, drop, length-drop}
+use native.Mathlib.Omega.{arith}
+use native.Mathlib.Nat.{le-antisymm}
+use mathlib.Core.List.{_++_}
+use mathlib.Core.Path.{_≡_, refl, ap, _∙_}
+use Prim.Native.Nat.{ℕ, _+_, _-_, _*_, _≤_}
 use borrow.Author.Needs.{needs}
 use Rattle.build.proofs.write.put_partitions.Statement.{statement}
 use Rattle.build.proofs.write.put_partitions.Tie as tie
@@ -6,14 +17,14 @@ use Rattle.build.proofs.write.put_partitions.Lts as lts
 use Rattle.build.proofs.write.put_partition.Reads as put-partition-reads
 
 abbrev Inv-loop : tie.InvT-loop
-Inv-loop out₀ partitions places i₀ out i = ?
+Inv-loop out₀ partitions places i₀ out i = (i ≤ partitions) × (length out ≡ length out₀) × (out ≡ partitionBytes places i ++ drop (2 * i) out₀)
 
 abbrev μ-loop : tie.MeasureT-loop
-μ-loop out₀ partitions places i₀ out i = ?
+μ-loop out₀ partitions places i₀ out i = partitions - i
 
 -- src/write.rt:53:5
 loop-holds : tie.Need-loop-holds Inv-loop μ-loop
-loop-holds c = search needs
+loop-holds c = (search needs, refl, rw partitions-none)
 
 -- src/write.rt:54:21
 mul-place : tie.Need-mul-place Inv-loop μ-loop
@@ -41,7 +52,12 @@ part-put-partition-end c = search needs
 
 -- src/write.rt:56:9
 put-partition-requires : tie.Need-put-partition-requires Inv-loop μ-loop
-put-partition-requires c κs = search needs
+put-partition-requires c κs =
+    let w = c .before .before in
+    let a = w .before .before .before in
+    let out = w .before .loop .out in
+    let i = w .before .loop .i in
+    (rw (part-from (2 * i) out, length-drop) (omega arith), a .pre .2 i (w .loop-test .taken))
 
 -- src/write.rt:57:9
 add-i : tie.Need-add-i Inv-loop μ-loop
@@ -53,7 +69,14 @@ loop-less c = search needs
 
 -- src/write.rt:53:5
 loop-again : tie.Need-loop-again Inv-loop μ-loop
-loop-again c = search needs
+loop-again c =
+    let w = c .before .before .before .before .before in
+    let a = w .before .before .before .args in
+    let out = w .before .loop .out in
+    let i = w .before .loop .i in
+    let s = front-step (partitionBytes (a .t2) i) (bytesOf (partitionSlots (placeOf (a .t2) i))) (now (a .out)) out (c .before .before .put-partition .last .0) (2 * i) 2 (length-partitions (a .t2) i) (w .before .loop .inv .2) (c .before .before .put-partition .ensures) in
+    let n : 2 * (i + 1) ≡ 2 * i + 2 = omega arith in
+    (search needs, c .before .out .given .1 ∙ w .before .loop .inv .1, s ∙ rw (partitions-more (a .t2) i, n))
 
 -- src/write.rt:48:1
 same-length : tie.Need-same-length Inv-loop μ-loop
@@ -61,7 +84,9 @@ same-length c = search needs
 
 -- src/write.rt:48:1
 returns : tie.Need-returns Inv-loop μ-loop
-returns c = search needs
+returns c =
+    let a = c .before .before .before .args in
+    c .before .loop .inv .2 ∙ ap (λ (n : ℕ). partitionBytes (a .t2) n ++ drop (2 * n) (now (a .out))) (le-antisymm (c .before .loop .inv .0) (c .loop-test .left))
 
 pub put-partitions-spec : {M : Type 1} → statement M
 put-partitions-spec =
