@@ -40,7 +40,9 @@ fn put_member(out: &mut [u8], member: Member)
     requires { ⌜ (4 ≤ length (now out)) × MemberFits member ⌝ }
     ensures { λ _. ⌜ now (out .exit) ≡ bytesOf (memberSlots member) ++ drop 4 (now (out .entry)) ⌝ }
 {
-    let number = ((wide(member.partition) * 32 + wide(member.rank)) * 1_048_576 + wide(member.response)) * 2;
+    let number = ((wide(member.partition) * 32 + wide(member.rank)) * 1_048_576
+        + wide(member.response))
+        * 2;
     bits::put_number(out, 4, number);
 }
 

@@ -2,28 +2,19 @@ use Rattle.build.specs.Build.{memberSpareAt}
 use borrow.Author.Needs.{needs}
 use Rattle.build.proofs.read.member_spare.Statement.{statement}
 use Rattle.build.proofs.read.member_spare.Tie as tie
-use Rattle.build.proofs.read.member_spare.Reads as reads
-use Rattle.build.proofs.read.member_spare.Lts as lts
-use Rattle.bits.proofs.Cursor.take.Reads as take-reads
-use Rattle.model.proofs.build.Build.bytes.Reads as bytes-reads
 
--- src/read.rt:96:17
 bytes-requires : tie.Need-bytes-requires
 bytes-requires c κs = search needs
 
--- src/read.rt:96:13
 mul-t7 : tie.Need-mul-t7
 mul-t7 c = search needs
 
--- src/read.rt:96:13
 add-t8 : tie.Need-add-t8
 add-t8 c = search needs
 
--- src/read.rt:98:9
 take-requires : tie.Need-take-requires
 take-requires c κs = search needs
 
--- src/read.rt:91:1
 returns : tie.Need-returns
 unfolding memberSpareAt
 returns c = cc

@@ -2,31 +2,22 @@ use Rattle.build.specs.Build.{partitionSpareAt}
 use borrow.Author.Needs.{needs}
 use Rattle.build.proofs.read.partition_spare.Statement.{statement}
 use Rattle.build.proofs.read.partition_spare.Tie as tie
-use Rattle.build.proofs.read.partition_spare.Reads as reads
-use Rattle.build.proofs.read.partition_spare.Lts as lts
-use Rattle.bits.proofs.Cursor.take.Reads as take-reads
 
--- src/read.rt:84:40
 mul-t5 : tie.Need-mul-t5
 mul-t5 c = search needs
 
--- src/read.rt:84:18
 add-t6 : tie.Need-add-t6
 add-t6 c = search needs
 
--- src/read.rt:84:13
 mul-t7 : tie.Need-mul-t7
 mul-t7 c = search needs
 
--- src/read.rt:84:13
 add-t8 : tie.Need-add-t8
 add-t8 c = search needs
 
--- src/read.rt:86:9
 take-requires : tie.Need-take-requires
 take-requires c κs = search needs
 
--- src/read.rt:79:1
 returns : tie.Need-returns
 unfolding partitionSpareAt
 returns c = c .take .ensures .0

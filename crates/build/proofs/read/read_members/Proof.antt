@@ -11,10 +11,6 @@ use lib.ListN.{replicate}
 use borrow.Author.Needs.{needs}
 use Rattle.build.proofs.read.read_members.Statement.{statement}
 use Rattle.build.proofs.read.read_members.Tie as tie
-use Rattle.build.proofs.read.read_members.Reads as reads
-use Rattle.build.proofs.read.read_members.Lts as lts
-use Rattle.build.proofs.read.read_member.Reads as read-member-reads
-use Rattle.model.proofs.build.Member.zero.Reads as zero-reads
 
 abbrev Inv-loop : tie.InvT-loop
 Inv-loop build partitions tasks members₀ i₀ members i = (i ≤ tasks) × (members ≡ filled (memberAt build partitions) zeroMember 32 i)
@@ -22,41 +18,32 @@ Inv-loop build partitions tasks members₀ i₀ members i = (i ≤ tasks) × (me
 abbrev μ-loop : tie.MeasureT-loop
 μ-loop build partitions tasks members₀ i₀ members i = tasks - i
 
--- src/read.rt:122:24
 zero-requires : tie.Need-zero-requires Inv-loop μ-loop
 zero-requires c κs = search needs
 
--- src/read.rt:124:5
 loop-holds : tie.Need-loop-holds Inv-loop μ-loop
 loop-holds c = (search needs, ap (replicate 32) (c .zero .ensures) ∙ filled-none (memberAt (now (c .before .before .args .build)) (c .before .before .args .partitions)) zeroMember 32)
 
--- src/read.rt:125:13
 read-member-requires : tie.Need-read-member-requires Inv-loop μ-loop
 read-member-requires c κs = search needs
 
--- src/read.rt:126:9
 mul-members : tie.Need-mul-members Inv-loop μ-loop
 mul-members c = search needs
 
--- src/read.rt:126:9
 array-set-from-members : tie.Need-array-set-from-members Inv-loop μ-loop
 array-set-from-members c = search needs
 
--- src/read.rt:127:9
 add-i : tie.Need-add-i Inv-loop μ-loop
 add-i c = search needs
 
--- src/read.rt:124:5
 loop-less : tie.Need-loop-less Inv-loop μ-loop
 loop-less c = search needs
 
--- src/read.rt:124:5
 loop-again : tie.Need-loop-again Inv-loop μ-loop
 loop-again c =
     let f = memberAt (now (c .before .before .before .before .before .args .build)) (c .before .before .before .before .before .args .partitions) in
     (search needs, cc (filled-more f zeroMember 32 (c .before .before .loop .i) (omega arith)))
 
--- src/read.rt:118:1
 returns : tie.Need-returns Inv-loop μ-loop
 returns c =
     let all : c .before .loop .i ≡ c .before .before .before .before .args .tasks = le-antisymm (c .before .loop .inv .0) (c .loop-test .left) in

@@ -2,31 +2,22 @@ use Rattle.build.specs.Build.{partitionAt}
 use borrow.Author.Needs.{needs}
 use Rattle.build.proofs.read.read_partition.Statement.{statement}
 use Rattle.build.proofs.read.read_partition.Tie as tie
-use Rattle.build.proofs.read.read_partition.Reads as reads
-use Rattle.build.proofs.read.read_partition.Lts as lts
-use Rattle.bits.proofs.Cursor.take.Reads as take-reads
 
--- src/read.rt:47:40
 mul-t7 : tie.Need-mul-t7
 mul-t7 c = search needs
 
--- src/read.rt:47:18
 add-t8 : tie.Need-add-t8
 add-t8 c = search needs
 
--- src/read.rt:47:13
 mul-t9 : tie.Need-mul-t9
 mul-t9 c = search needs
 
--- src/read.rt:49:9
 take-requires : tie.Need-take-requires
 take-requires c κs = search needs
 
--- src/read.rt:51:9
 take-requires-2 : tie.Need-take-requires-2
 take-requires-2 c κs = search needs
 
--- src/read.rt:42:1
 returns : tie.Need-returns
 unfolding partitionAt
 returns c = cc

@@ -2,52 +2,37 @@ use Rattle.build.proofs.Records.{header-number}
 use borrow.Author.Needs.{needs}
 use Rattle.build.proofs.write.put_header.Statement.{statement}
 use Rattle.build.proofs.write.put_header.Tie as tie
-use Rattle.build.proofs.write.put_header.Reads as reads
-use Rattle.build.proofs.write.put_header.Lts as lts
-use Rattle.bits.proofs.put_number.Reads as put-number-reads
-use Rattle.build.proofs.write.wide.Reads as wide-reads
 
--- src/write.rt:25:26
 wide-requires : tie.Need-wide-requires
 wide-requires c κs = search needs
 
--- src/write.rt:25:20
 add-number : tie.Need-add-number
 add-number c = search needs
 
--- src/write.rt:25:19
 mul-number : tie.Need-mul-number
 mul-number c = search needs
 
--- src/write.rt:25:51
 wide-requires-2 : tie.Need-wide-requires-2
 wide-requires-2 c κs = search needs
 
--- src/write.rt:25:19
 add-number-2 : tie.Need-add-number-2
 add-number-2 c = search needs
 
--- src/write.rt:25:18
 mul-number-2 : tie.Need-mul-number-2
 mul-number-2 c = search needs
 
--- src/write.rt:25:72
 wide-requires-3 : tie.Need-wide-requires-3
 wide-requires-3 c κs = search needs
 
--- src/write.rt:25:18
 add-number-3 : tie.Need-add-number-3
 add-number-3 c = search needs
 
--- src/write.rt:26:5
 put-number-requires : tie.Need-put-number-requires
 put-number-requires c κs = search needs
 
--- src/write.rt:21:1
 same-length : tie.Need-same-length
 same-length c = search needs
 
--- src/write.rt:21:1
 returns : tie.Need-returns
 returns c =
     let a = c .before .before .before .before .before .before .before .before .args in

@@ -12,9 +12,6 @@ use Prim.Native.Nat.{ℕ, _+_, _-_, _*_, _≤_}
 use borrow.Author.Needs.{needs}
 use Rattle.build.proofs.write.put_members.Statement.{statement}
 use Rattle.build.proofs.write.put_members.Tie as tie
-use Rattle.build.proofs.write.put_members.Reads as reads
-use Rattle.build.proofs.write.put_members.Lts as lts
-use Rattle.build.proofs.write.put_member.Reads as put-member-reads
 
 abbrev Inv-loop : tie.InvT-loop
 Inv-loop out₀ tasks members i₀ out i = (i ≤ tasks) × (length out ≡ length out₀) × (out ≡ memberBytes members i ++ drop (4 * i) out₀)
@@ -22,35 +19,27 @@ Inv-loop out₀ tasks members i₀ out i = (i ≤ tasks) × (length out ≡ leng
 abbrev μ-loop : tie.MeasureT-loop
 μ-loop out₀ tasks members i₀ out i = tasks - i
 
--- src/write.rt:67:5
 loop-holds : tie.Need-loop-holds Inv-loop μ-loop
 loop-holds c = (search needs, refl, rw members-none)
 
--- src/write.rt:68:22
 mul-member : tie.Need-mul-member Inv-loop μ-loop
 mul-member c = search needs
 
--- src/write.rt:68:22
 array-copy-out-member : tie.Need-array-copy-out-member Inv-loop μ-loop
 array-copy-out-member c = search needs
 
--- src/write.rt:69:18
 mul-at : tie.Need-mul-at Inv-loop μ-loop
 mul-at c = search needs
 
--- src/write.rt:70:20
 sub-put-member : tie.Need-sub-put-member Inv-loop μ-loop
 sub-put-member c = search needs
 
--- src/write.rt:70:20
 part-put-member-start : tie.Need-part-put-member-start Inv-loop μ-loop
 part-put-member-start c = search needs
 
--- src/write.rt:70:20
 part-put-member-end : tie.Need-part-put-member-end Inv-loop μ-loop
 part-put-member-end c = search needs
 
--- src/write.rt:70:9
 put-member-requires : tie.Need-put-member-requires Inv-loop μ-loop
 put-member-requires c κs =
     let w = c .before .before in
@@ -59,15 +48,12 @@ put-member-requires c κs =
     let i = w .before .loop .i in
     (rw (part-from (4 * i) out, length-drop) (omega arith), a .pre .2 i (w .loop-test .taken))
 
--- src/write.rt:71:9
 add-i : tie.Need-add-i Inv-loop μ-loop
 add-i c = search needs
 
--- src/write.rt:67:5
 loop-less : tie.Need-loop-less Inv-loop μ-loop
 loop-less c = search needs
 
--- src/write.rt:67:5
 loop-again : tie.Need-loop-again Inv-loop μ-loop
 loop-again c =
     let w = c .before .before .before .before .before in
@@ -78,11 +64,9 @@ loop-again c =
     let n : 4 * (i + 1) ≡ 4 * i + 4 = omega arith in
     (search needs, c .before .out .given .1 ∙ w .before .loop .inv .1, s ∙ rw (members-more (a .t2) i, n))
 
--- src/write.rt:62:1
 same-length : tie.Need-same-length Inv-loop μ-loop
 same-length c = search needs
 
--- src/write.rt:62:1
 returns : tie.Need-returns Inv-loop μ-loop
 returns c =
     let a = c .before .before .before .args in

@@ -2,40 +2,28 @@ use Rattle.build.proofs.Records.{partition-number}
 use borrow.Author.Needs.{needs}
 use Rattle.build.proofs.write.put_partition.Statement.{statement}
 use Rattle.build.proofs.write.put_partition.Tie as tie
-use Rattle.build.proofs.write.put_partition.Reads as reads
-use Rattle.build.proofs.write.put_partition.Lts as lts
-use Rattle.bits.proofs.put_number.Reads as put-number-reads
-use Rattle.build.proofs.write.wide.Reads as wide-reads
 
--- src/write.rt:34:19
 wide-requires : tie.Need-wide-requires
 wide-requires c κs = search needs
 
--- src/write.rt:34:19
 mul-number : tie.Need-mul-number
 mul-number c = search needs
 
--- src/write.rt:34:45
 wide-requires-2 : tie.Need-wide-requires-2
 wide-requires-2 c κs = search needs
 
--- src/write.rt:34:19
 add-number : tie.Need-add-number
 add-number c = search needs
 
--- src/write.rt:34:18
 mul-number-2 : tie.Need-mul-number-2
 mul-number-2 c = search needs
 
--- src/write.rt:35:5
 put-number-requires : tie.Need-put-number-requires
 put-number-requires c κs = search needs
 
--- src/write.rt:30:1
 same-length : tie.Need-same-length
 same-length c = search needs
 
--- src/write.rt:30:1
 returns : tie.Need-returns
 returns c =
     let a = c .before .before .before .before .before .before .before .args in

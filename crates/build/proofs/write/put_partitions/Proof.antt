@@ -12,9 +12,6 @@ use Prim.Native.Nat.{ℕ, _+_, _-_, _*_, _≤_}
 use borrow.Author.Needs.{needs}
 use Rattle.build.proofs.write.put_partitions.Statement.{statement}
 use Rattle.build.proofs.write.put_partitions.Tie as tie
-use Rattle.build.proofs.write.put_partitions.Reads as reads
-use Rattle.build.proofs.write.put_partitions.Lts as lts
-use Rattle.build.proofs.write.put_partition.Reads as put-partition-reads
 
 abbrev Inv-loop : tie.InvT-loop
 Inv-loop out₀ partitions places i₀ out i = (i ≤ partitions) × (length out ≡ length out₀) × (out ≡ partitionBytes places i ++ drop (2 * i) out₀)
@@ -22,35 +19,27 @@ Inv-loop out₀ partitions places i₀ out i = (i ≤ partitions) × (length out
 abbrev μ-loop : tie.MeasureT-loop
 μ-loop out₀ partitions places i₀ out i = partitions - i
 
--- src/write.rt:53:5
 loop-holds : tie.Need-loop-holds Inv-loop μ-loop
 loop-holds c = (search needs, refl, rw partitions-none)
 
--- src/write.rt:54:21
 mul-place : tie.Need-mul-place Inv-loop μ-loop
 mul-place c = search needs
 
--- src/write.rt:54:21
 array-copy-out-place : tie.Need-array-copy-out-place Inv-loop μ-loop
 array-copy-out-place c = search needs
 
--- src/write.rt:55:18
 mul-at : tie.Need-mul-at Inv-loop μ-loop
 mul-at c = search needs
 
--- src/write.rt:56:23
 sub-put-partition : tie.Need-sub-put-partition Inv-loop μ-loop
 sub-put-partition c = search needs
 
--- src/write.rt:56:23
 part-put-partition-start : tie.Need-part-put-partition-start Inv-loop μ-loop
 part-put-partition-start c = search needs
 
--- src/write.rt:56:23
 part-put-partition-end : tie.Need-part-put-partition-end Inv-loop μ-loop
 part-put-partition-end c = search needs
 
--- src/write.rt:56:9
 put-partition-requires : tie.Need-put-partition-requires Inv-loop μ-loop
 put-partition-requires c κs =
     let w = c .before .before in
@@ -59,15 +48,12 @@ put-partition-requires c κs =
     let i = w .before .loop .i in
     (rw (part-from (2 * i) out, length-drop) (omega arith), a .pre .2 i (w .loop-test .taken))
 
--- src/write.rt:57:9
 add-i : tie.Need-add-i Inv-loop μ-loop
 add-i c = search needs
 
--- src/write.rt:53:5
 loop-less : tie.Need-loop-less Inv-loop μ-loop
 loop-less c = search needs
 
--- src/write.rt:53:5
 loop-again : tie.Need-loop-again Inv-loop μ-loop
 loop-again c =
     let w = c .before .before .before .before .before in
@@ -78,11 +64,9 @@ loop-again c =
     let n : 2 * (i + 1) ≡ 2 * i + 2 = omega arith in
     (search needs, c .before .out .given .1 ∙ w .before .loop .inv .1, s ∙ rw (partitions-more (a .t2) i, n))
 
--- src/write.rt:48:1
 same-length : tie.Need-same-length Inv-loop μ-loop
 same-length c = search needs
 
--- src/write.rt:48:1
 returns : tie.Need-returns Inv-loop μ-loop
 returns c =
     let a = c .before .before .before .args in

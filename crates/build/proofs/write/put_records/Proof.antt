@@ -6,48 +6,34 @@ use Prim.Native.Nat.{_*_}
 use borrow.Author.Needs.{needs}
 use Rattle.build.proofs.write.put_records.Statement.{statement}
 use Rattle.build.proofs.write.put_records.Tie as tie
-use Rattle.build.proofs.write.put_records.Reads as reads
-use Rattle.build.proofs.write.put_records.Lts as lts
-use Rattle.build.proofs.write.put_members.Reads as put-members-reads
-use Rattle.build.proofs.write.put_partitions.Reads as put-partitions-reads
 
--- src/write.rt:82:22
 cast-partitions : tie.Need-cast-partitions
 cast-partitions c = search needs
 
--- src/write.rt:83:5
 put-partitions-requires : tie.Need-put-partitions-requires
 put-partitions-requires c κs = search needs
 
--- src/write.rt:84:14
 mul-at : tie.Need-mul-at
 mul-at c = search needs
 
--- src/write.rt:85:17
 sub-put-members : tie.Need-sub-put-members
 sub-put-members c = search needs
 
--- src/write.rt:85:17
 part-put-members-start : tie.Need-part-put-members-start
 part-put-members-start c = search needs
 
--- src/write.rt:85:17
 part-put-members-end : tie.Need-part-put-members-end
 part-put-members-end c = search needs
 
--- src/write.rt:85:42
 cast-put-members : tie.Need-cast-put-members
 cast-put-members c = search needs
 
--- src/write.rt:85:5
 put-members-requires : tie.Need-put-members-requires
 put-members-requires c κs = search needs
 
--- src/write.rt:76:1
 same-length : tie.Need-same-length
 same-length c = search needs
 
--- src/write.rt:76:1
 returns : tie.Need-returns
 unfolding recordBytes
 returns c =

@@ -12,36 +12,25 @@ use Prim.Native.Nat.{ℕ, _+_, _*_}
 use borrow.Author.Needs.{needs}
 use Rattle.build.proofs.write.write_build.Statement.{statement}
 use Rattle.build.proofs.write.write_build.Tie as tie
-use Rattle.build.proofs.write.write_build.Reads as reads
-use Rattle.build.proofs.write.write_build.Lts as lts
-use Rattle.build.proofs.write.put_header.Reads as put-header-reads
-use Rattle.build.proofs.write.put_records.Reads as put-records-reads
 
--- src/write.rt:93:5
 put-header-requires : tie.Need-put-header-requires
 put-header-requires c κs = search needs
 
--- src/write.rt:94:17
 sub-put-records : tie.Need-sub-put-records
 sub-put-records c = search needs
 
--- src/write.rt:94:17
 part-put-records-start : tie.Need-part-put-records-start
 part-put-records-start c = search needs
 
--- src/write.rt:94:17
 part-put-records-end : tie.Need-part-put-records-end
 part-put-records-end c = search needs
 
--- src/write.rt:94:5
 put-records-requires : tie.Need-put-records-requires
 put-records-requires c κs = search needs
 
--- src/write.rt:89:1
 same-length : tie.Need-same-length
 same-length c = search needs
 
--- src/write.rt:89:1
 returns : tie.Need-returns
 unfolding buildBytes
 returns c =
