@@ -5,3 +5,4 @@ pub mod Sums
 pub mod Division
 pub mod Picked
 pub mod Filled
+pub mod Every
