@@ -1,0 +1,4 @@
+pub mod Tell
+pub mod Verdicts
+pub mod Turn
+pub mod Claims
