@@ -4,3 +4,4 @@ pub mod Joined
 pub mod Sums
 pub mod Division
 pub mod Picked
+pub mod Every
