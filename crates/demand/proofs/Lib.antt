@@ -7,3 +7,6 @@ pub mod Largest
 pub mod Meaning
 pub mod Sound
 pub mod Packed
+pub mod Local
+pub mod Alone
+pub mod Within
