@@ -7,7 +7,7 @@ use native.Mathlib.Omega.{arith}
 use lib.Dec.{eqb}
 use Rattle.laws.specs.Sums.{only, sum, largest}
 use Rattle.laws.proofs.Sums.{sum-same}
-use Rattle.laws.proofs.Every.{largest-same}
+use Rattle.laws.proofs.Bounds.{largest-same}
 use Rattle.demand.specs.Kinds.{Task, Found}
 use Rattle.demand.specs.Priority.{deadlineOf, outranks, inPartition, higher, lower, rank}
 use Rattle.demand.specs.Releases.{periodOf, costOf, releasesIn, releasesBy}

@@ -1,13 +1,12 @@
--- Laws of a test of each number below a bound, of how many pass, and of the largest.
+-- Laws of a test of each number below a bound, and of how many pass.
 use mathlib.Core.Path.{_≡_, refl, sym, ap, _∙_, subst}
 use mathlib.Core.Bool.{Bool, true, false, _&&_, _||_}
 use mathlib.Core.Logic.{⊎-elim}
 use Prim.Native.Nat.{ℕ, zero, suc, _+_, _≤_, _<_}
-use native.Mathlib.Nat.{eq-or-lt-of-le, le-of-suc-le-suc, le-antisymm, mul-one}
+use native.Mathlib.Nat.{eq-or-lt-of-le, le-of-suc-le-suc, mul-one}
 use native.Mathlib.Omega.{arith}
 use Rattle.laws.specs.Every.{every}
-use Rattle.laws.specs.Sums.{only, sum, largest}
-use Rattle.laws.proofs.Sums.{largest-in, largest-le}
+use Rattle.laws.specs.Sums.{only, sum}
 use Rattle.laws.proofs.Picked.{only-le, sum-most}
 
 pub clash : {A : Type 0} → false ≡ true → A
@@ -45,9 +44,16 @@ module _ (passes : ℕ → Bool) where
       go true p = clash (sym e ∙ every-at n p j l)
       go false p = p
 
-  -- as many as there are numbers: each passes
+  -- how many pass: at most all, and all just where each does
   pub count-le : (n : ℕ) → sum (λ j. only (passes j) 1) n ≤ n
   count-le n = omega (arith, sum-most (λ j. only (passes j) 1) 1 n (λ j l. only-le (passes j) 1), mul-one n)
+
+  pub count-each : (n : ℕ) → ((j : ℕ) → j < n → passes j ≡ true) → sum (λ j. only (passes j) 1) n ≡ n
+  unfolding sum
+  count-each zero each = refl
+  count-each (suc n) each =
+      let one : only (passes n) 1 ≡ 1 = ap (λ (x : Bool). only x 1) (each n (omega arith)) in
+      omega (arith, count-each n (λ j l. each j (omega arith)))
 
   pub count-all : (n : ℕ) → sum (λ j. only (passes j) 1) n ≡ n → (j : ℕ) → j < n → passes j ≡ true
   unfolding sum
@@ -58,9 +64,3 @@ module _ (passes : ℕ → Bool) where
       go earlier true h s =
           ⊎-elim (λ same. ap passes same ∙ h) (λ below. earlier (omega arith) below) (eq-or-lt-of-le (le-of-suc-le-suc l))
       go earlier false h s = absurd (omega (arith, count-le n))
-
-pub largest-same : (f g : ℕ → ℕ) (n : ℕ) → ((j : ℕ) → j < n → f j ≡ g j) → largest f n ≡ largest g n
-largest-same f g n same =
-    le-antisymm
-    (largest-le f n (largest g n) (λ j l. omega (arith, same j l, largest-in g n j l)))
-    (largest-le g n (largest f n) (λ j l. omega (arith, same j l, largest-in f n j l)))

@@ -5,3 +5,5 @@ pub mod Sums
 pub mod Division
 pub mod Picked
 pub mod Every
+pub mod Filled
+pub mod Bounds
