@@ -4,3 +4,4 @@ pub mod Accepts
 pub mod Standing
 pub mod Steps
 pub mod Claims
+pub mod Built
