@@ -7,6 +7,6 @@ pub mod Largest
 pub mod Meaning
 pub mod Sound
 pub mod Packed
-pub mod Local
-pub mod Alone
+pub mod Points
+pub mod Membership
 pub mod Within

@@ -15,21 +15,17 @@ use Rattle.model.specs.Limits.{mostTasks, zeroPartition, zeroMember, emptyBuild
 use Rattle.model.specs.Rules.{WithinLimits}
 use Rattle.demand.specs.Priority.{inPartition, rank}
 use Rattle.demand.specs.Test.{Sound, verdict, doesPass}
-use Rattle.demand.proofs.Local.{rank-local, verdict-local}
-use Rattle.demand.proofs.Alone.{alone-passes}
+use Rattle.demand.proofs.Membership.{rank-same, verdict-same}
 use Rattle.demand.proofs.Within.{limits-sound}
 use Rattle.fit.specs.Kinds.{Task, Order, Partition, Member, Build, Answer, Done, Refused, Refusal, FirstFit, Verdict, Passes, Placing, Outcome, Fitted}
 use Rattle.fit.specs.Turns.{widthOf, partitionOf, isUnplaced}
 use Rattle.fit.specs.Steps.{nothingPlaced, goingOn, refusing, steps, firstFit}
 use Rattle.fit.specs.Recorded.{responseOf, memberOf, buildOf, fittedBy, recorded, fitted}
-use Rattle.fit.specs.Claims.{AlonePasses, volumeOf, processorOf, Placed, FirstFitPlaces, RefusedIn, FirstFitRefuses, FirstFitEnds, memberAt, Built, FittedIsBuilt, FittedIsRefused}
+use Rattle.fit.specs.Claims.{volumeOf, processorOf, Placed, FirstFitPlaces, RefusedIn, FirstFitRefuses, FirstFitEnds, memberAt, Built, FittedIsBuilt, FittedIsRefused}
 use Rattle.fit.proofs.Put.{in-same, none-waits}
 use Rattle.fit.proofs.Accepts.{pass-says}
 use Rattle.fit.proofs.Standing.{Stands, stands-none}
 use Rattle.fit.proofs.Steps.{steps-none, Ends, all-placed, one-refused, ends}
-
-pub alone-passes-always : AlonePasses
-alone-passes-always table partitions n i sound mine alone = alone-passes table partitions n i sound mine alone
 
 -- all tasks are placed
 pub placed-all : (table : List Task) (n M : ℕ) (s : Placing) → 1 ≤ n → Stands table n M n s → Placed table n M (s .partitions) (s .places) (s .opened)
@@ -61,10 +57,10 @@ placed-all table n M s some is =
 -- partition numbers that agree below n
 module _ (table : List Task) (n M : ℕ) (a b : List ℕ) (agree : (i : ℕ) → i < n → partitionOf b i ≡ partitionOf a i) where
   pub verdict-agrees : (i : ℕ) → i < n → verdict table b n i ≡ verdict table a n i
-  verdict-agrees i l = verdict-local table b a n i (λ j m. in-same b a i j (agree i l) (agree j m))
+  verdict-agrees i l = verdict-same table b a n i (λ j m. in-same b a i j (agree i l) (agree j m))
 
   pub rank-agrees : (i : ℕ) → i < n → rank table b n i ≡ rank table a n i
-  rank-agrees i l = rank-local table b a n i (λ j m. in-same b a i j (agree i l) (agree j m))
+  rank-agrees i l = rank-same table b a n i (λ j m. in-same b a i j (agree i l) (agree j m))
 
   pub placed-agrees : (places : List Partition) (opened : ℕ) → Placed table n M a places opened → Placed table n M b places opened
   placed-agrees places opened p =

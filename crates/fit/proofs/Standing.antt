@@ -18,8 +18,7 @@ use Rattle.model.specs.Limits.{mostTasks, mostPartitions, zeroPartition}
 use Rattle.demand.specs.Priority.{inPartition}
 use Rattle.demand.specs.Test.{Sound, verdict, doesPass}
 use Rattle.demand.proofs.Priority.{in-self}
-use Rattle.demand.proofs.Local.{verdict-local}
-use Rattle.demand.proofs.Alone.{alone-passes}
+use Rattle.demand.proofs.Membership.{verdict-same, every-alone-passes}
 use Rattle.fit.specs.Kinds.{Task, Partition, Placing}
 use Rattle.fit.specs.Turns.{widthOf, unplaced, partitionOf, isUnplaced}
 use Rattle.fit.specs.Steps.{nothingPlaced, put, openNext, accepts}
@@ -82,7 +81,7 @@ module _ (table : List Task) (n : ℕ) (sound : Sound table n) (partitions : Lis
     still-passes j l p false e =
         let away : j ≡ i → ⊥ = λ s. clash (sym e ∙ (ap (inPartition (set partitions i k) i) s ∙ in-self (set partitions i k) i)) in
         let before : isUnplaced partitions j ≡ false = sym (put-unplaced partitions i k room j away) ∙ p in
-        ap doesPass (verdict-local table (set partitions i k) partitions n j (apart-same j l e before)) ∙ was .passes j l before
+        ap doesPass (verdict-same table (set partitions i k) partitions n j (apart-same j l e before)) ∙ was .passes j l before
 
     pub numbered-put : Numbered table n (set partitions i k) more (placed + 1)
     numbered-put =
@@ -117,7 +116,7 @@ module _ (table : List Task) (n : ℕ) (sound : Sound table n) (partitions : Lis
       numbered-put opened (opened + 1) (omega arith) (omega arith) (omega (arith, was .few))
       (λ j l e.
       elim (ℕ-discrete j i) [
-        | yes s ↦ ap (λ (x : ℕ). doesPass (verdict table (set partitions i opened) n x)) s ∙ ap doesPass (alone-passes table (set partitions i opened) n i sound (next .below) alone)
+        | yes s ↦ ap (λ (x : ℕ). doesPass (verdict table (set partitions i opened) n x)) s ∙ ap doesPass (every-alone-passes table (set partitions i opened) n i sound (next .below) alone)
         | no away ↦ clash (sym (alone j l away) ∙ e)
       ])
 

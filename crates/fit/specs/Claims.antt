@@ -47,13 +47,6 @@ AcceptsMeans =
     (accepts table n partitions i k ≡ true)
     ↔ ((j : ℕ) → j < n → inPartition (set partitions i k) i j ≡ true → (worst : ℕ) × (verdict table (set partitions i k) n j ≡ Passes worst))
 
--- "A task alone always passes.", with its own C
-abbrev pub AlonePasses : Type 0
-AlonePasses =
-    (table : List Task) (partitions : List ℕ) (n i : ℕ) → Sound table n → i < n →
-    ((j : ℕ) → j < n → (j ≡ i → ⊥) → inPartition partitions i j ≡ false) →
-    verdict table partitions n i ≡ Passes (costOf table i)
-
 -- partition k's volume and first processor
 abbrev pub volumeOf : List Partition → ℕ → ℕ
 volumeOf places k = getD places k zeroPartition .volume
