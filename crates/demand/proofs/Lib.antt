@@ -9,3 +9,4 @@ pub mod Sound
 pub mod Packed
 pub mod Points
 pub mod Membership
+pub mod Within

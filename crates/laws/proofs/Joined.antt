@@ -1,14 +1,13 @@
 -- Laws of lists made index by index.
-use mathlib.Core.Path.{_≡_, refl, sym, ap, _∙_}
+use mathlib.Core.Path.{_≡_, refl, _∙_}
 use mathlib.Core.List.{List, [], _∷_, _++_, append-assoc, append-nil}
 use mathlib.Core.Logic.{⊎-elim}
-use Prim.Native.Nat.{ℕ, zero, suc, _+_, _-_, _*_, _≤_, _<_}
+use Prim.Native.Nat.{ℕ, zero, suc, _+_, _-_, _*_, _<_}
 use native.Mathlib.Nat.{eq-or-lt-of-le, mul-zero, mul-suc, sub-zero}
-use native.Mathlib.Decide.{decLt}
 use native.Mathlib.Numerals.{add-one}
 use native.Mathlib.Omega.{arith}
-use lib.ListN.{length, getD, set, take, drop, replicate, length-append, length-replicate, getD-replicate, List·getD-append, List·getD-eq-default}
-use lib.Seq.{drop-at, set-at, append-snoc, getD-at, getD-append-add, take-add, drop-drop}
+use lib.ListN.{length, getD, set, take, drop, replicate, length-append}
+use lib.Seq.{drop-at, set-at, append-snoc, getD-at, take-add, drop-drop}
 use Rattle.laws.specs.Joined.{joined, listed, filled}
 
 module _ {A : Type 0} where
@@ -68,20 +67,6 @@ module _ {A : Type 0} where
   filled-more f z m i below =
       let e : m - i ≡ suc (m - (i + 1)) = omega arith in
       rw (e, set-at (listed f i) z (replicate (m - (i + 1)) z) (f i) i (length-listed f i), listed-more f i, append-snoc)
-
-  pub length-filled : (f : ℕ → A) (z : A) (m n : ℕ) → n ≤ m → length (filled f z m n) ≡ m
-  length-filled f z m n few = rw (length-append, length-listed f n, length-replicate) (omega arith)
-
-  pub filled-in : (f : ℕ → A) (z : A) (m n i : ℕ) → i < n → getD (filled f z m n) i z ≡ f i
-  filled-in f z m n i below = List·getD-append (listed f n) (replicate (m - n) z) z i (omega (arith, length-listed f n)) ∙ getD-listed f z n i below
-
-  pub filled-past : (f : ℕ → A) (z : A) (m n i : ℕ) → n ≤ i → getD (filled f z m n) i z ≡ z
-  filled-past f z m n i past =
-      let e : length (listed f n) + (i - n) ≡ i = omega (arith, length-listed f n) in
-      ap (λ (x : ℕ). getD (filled f z m n) x z) (sym e) ∙ getD-append-add (listed f n) (replicate (m - n) z) (i - n) z ∙ past-of (i - n)
-    where
-      past-of : (k : ℕ) → getD (replicate (m - n) z) k z ≡ z
-      past-of k = elim (decLt k (m - n)) [ yes l ↦ getD-replicate (m - n) k z z l | no g ↦ List·getD-eq-default (replicate (m - n) z) z {n = k} (omega (arith, length-replicate (m - n) z)) ]
 
   -- a list cut into parts of one length
   pub joined-parts : (s : List A) (from k n : ℕ) → joined (λ i. take k (drop (from + k * i) s)) n ≡ take (k * n) (drop from s)

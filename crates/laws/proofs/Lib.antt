@@ -1,10 +1,10 @@
 pub mod Choice
 pub mod Division
+pub mod Every
+pub mod Filled
 pub mod Front
 pub mod Growth
 pub mod Joined
 pub mod Only
 pub mod Picked
 pub mod Sums
-pub mod Filled
-pub mod Every

@@ -1,9 +1,8 @@
--- A test of every number below a bound.
-use mathlib.Core.Bool.{Bool, true, false}
+-- A test of each number below a bound.
+use mathlib.Core.Bool.{Bool, true, _&&_}
 use Prim.Native.Nat.{ℕ, zero, suc}
-use Rattle.laws.specs.Choice.{pick}
 
--- test 0, test 1, up to test (n - 1)
+-- each of 0, 1, .., n - 1 passes
 unfoldable pub every : (ℕ → Bool) → ℕ → Bool
-every test zero = true
-every test (suc n) = pick (every test n) (test n) false
+every passes zero = true
+every passes (suc n) = every passes n && passes n

@@ -1,4 +1,4 @@
 pub mod Choice
+pub mod Every
 pub mod Joined
 pub mod Sums
-pub mod Every

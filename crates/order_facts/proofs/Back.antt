@@ -10,7 +10,8 @@ use lib.Seq.{drop-append-add, ext-getD}
 use borrow.Author.Tests.{le-leb, eq-eqb}
 use Rattle.laws.specs.Joined.{filled}
 use Rattle.laws.proofs.Choice.{true-within}
-use Rattle.laws.proofs.Joined.{drop-joined, length-filled, filled-in, filled-past}
+use Rattle.laws.proofs.Filled.{length-filled, filled-in, filled-past}
+use Rattle.laws.proofs.Joined.{drop-joined}
 use Rattle.bits.specs.Field.{field}
 use Rattle.bits.specs.Packed.{slot, widthOf, bytesOf, Fit}
 use Rattle.bits.proofs.Field.{field-append, field-drop}

@@ -4,7 +4,7 @@ use mathlib.Core.List.{List, _++_}
 use Prim.Native.Nat.{ℕ, _≤_}
 use lib.ListN.{length, take, drop}
 use lib.Seq.{take-at}
-use Rattle.laws.proofs.Joined.{length-filled, filled-past}
+use Rattle.laws.proofs.Filled.{length-filled, filled-past}
 use Rattle.model.specs.declared.order.Order.{Order}
 use Rattle.model.specs.declared.answer.Reading.{Reading}
 use Rattle.model.specs.declared.answer.Answer.{Answer}

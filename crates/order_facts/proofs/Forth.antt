@@ -6,7 +6,8 @@ use native.Mathlib.Omega.{arith}
 use lib.ListN.{length, take, drop, length-drop, take-append-drop}
 use lib.Seq.{take-all}
 use Rattle.laws.specs.Joined.{joined, filled}
-use Rattle.laws.proofs.Joined.{joined-same, joined-parts, length-filled, filled-in, filled-past}
+use Rattle.laws.proofs.Filled.{length-filled, filled-in, filled-past}
+use Rattle.laws.proofs.Joined.{joined-same, joined-parts}
 use Rattle.bits.specs.Field.{field}
 use Rattle.bits.specs.Packed.{widthOf, bytesOf, slotsAt, Bytes}
 use Rattle.bits.proofs.Packed.{number-at, packed-field}

@@ -1,2 +1,3 @@
 pub mod Smallest
 pub mod Jump
+pub mod First

@@ -1,0 +1,73 @@
+-- What it says that a partition takes a task, and that none does.
+use mathlib.Core.Path.{_≡_, refl, sym, ap, _∙_, subst}
+use mathlib.Core.Bool.{Bool, true, false}
+use mathlib.Core.List.{List}
+use Prim.Native.Nat.{ℕ, _<_}
+use lib.ListN.{set}
+use Rattle.laws.specs.Every.{every}
+use Rattle.laws.proofs.Every.{clash, every-at, every-all, every-stop}
+use Rattle.search.specs.Smallest.{firstOf}
+use Rattle.search.proofs.First.{IsFirst, Firstly, first-found, first-missing, first-says}
+use Rattle.demand.specs.Priority.{inPartition}
+use Rattle.demand.specs.Test.{verdict, doesPass}
+use Rattle.fit.specs.Kinds.{Task, Found, At, Nothing, Verdict, Passes, NoWindow, NoStart, Late, Placing}
+use Rattle.fit.specs.Steps.{membersPass, accepts, lowestAccepting}
+use Rattle.fit.specs.Claims.{AcceptsMeans}
+
+pub pass-says : (v : Verdict) → doesPass v ≡ true → (worst : ℕ) × (v ≡ Passes worst)
+pass-says (Passes worst) e = (worst, refl)
+pass-says NoWindow e = clash e
+pass-says NoStart e = clash e
+pass-says Late e = clash e
+
+module _ (table : List Task) (n : ℕ) (partitions : List ℕ) (i : ℕ) where
+  -- the test of one task: it passes if it is a member
+  abbrev pub memberPasses : ℕ → Bool
+  memberPasses j = elim (inPartition partitions i j) [ true ↦ doesPass (verdict table partitions n j) | false ↦ true ]
+
+  pub member-of : (j : ℕ) → inPartition partitions i j ≡ true → memberPasses j ≡ doesPass (verdict table partitions n j)
+  member-of j e = rw (e, memberPasses)
+
+  pub stranger : (j : ℕ) → inPartition partitions i j ≡ false → memberPasses j ≡ true
+  stranger j e = rw (e, memberPasses)
+
+  pub members-say : membersPass table n partitions i ≡ true → (j : ℕ) → j < n → inPartition partitions i j ≡ true → doesPass (verdict table partitions n j) ≡ true
+  unfolding membersPass
+  members-say e j l m = sym (member-of j m) ∙ every-at memberPasses n e j l
+
+  pub say-members : ((j : ℕ) → j < n → inPartition partitions i j ≡ true → doesPass (verdict table partitions n j) ≡ true) → membersPass table n partitions i ≡ true
+  unfolding membersPass
+  say-members each = every-all memberPasses n (λ j l. go j l (inPartition partitions i j) refl)
+    where
+      go : (j : ℕ) → j < n → (b : Bool) → inPartition partitions i j ≡ b → memberPasses j ≡ true
+      go j l true e = member-of j e ∙ each j l e
+      go j l false e = stranger j e
+
+  -- one member that fails is enough
+  pub members-not : (j : ℕ) → j < n → memberPasses j ≡ false → membersPass table n partitions i ≡ false
+  unfolding membersPass
+  members-not j l e = every-stop memberPasses n j l e
+
+  pub members-all : ((j : ℕ) → j < n → memberPasses j ≡ true) → membersPass table n partitions i ≡ true
+  unfolding membersPass
+  members-all each = every-all memberPasses n each
+
+pub accepts-means : AcceptsMeans
+unfolding accepts
+accepts-means table n partitions i k =
+    (λ e j l m. pass-says (verdict table (set partitions i k) n j) (members-say table n (set partitions i k) i e j l m),
+    λ each. say-members table n (set partitions i k) i (λ j l m. ap doesPass (each j l m .1)))
+
+-- the lowest partition that takes a task
+module _ (table : List Task) (n : ℕ) (s : Placing) (i : ℕ) where
+  pub lowest-found : (k : ℕ) → IsFirst (accepts table n (s .partitions) i) (s .opened) k → lowestAccepting table n s i ≡ At k
+  unfolding lowestAccepting
+  lowest-found k is = first-found (accepts table n (s .partitions) i) (s .opened) k is
+
+  pub lowest-missing : ((k : ℕ) → k < s .opened → accepts table n (s .partitions) i k ≡ false) → lowestAccepting table n s i ≡ Nothing
+  unfolding lowestAccepting
+  lowest-missing none = first-missing (accepts table n (s .partitions) i) (s .opened) none
+
+  pub lowest-says : Firstly (accepts table n (s .partitions) i) (s .opened) (lowestAccepting table n s i)
+  unfolding lowestAccepting
+  lowest-says = first-says (accepts table n (s .partitions) i) (s .opened)

@@ -1,0 +1,6 @@
+// First fit by decreasing volume: from an order to its build, or to the task for which first fit runs out.
+mod state;
+
+pub use state::Fitted;
+pub use state::Outcome;
+pub use state::Placing;
