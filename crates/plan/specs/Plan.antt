@@ -1,0 +1,52 @@
+-- "The planner reads an order, makes a build": the order's 1 to 10, then 11, then 12.
+use Prim.Native.Nat.{ℕ}
+use mathlib.Core.Path.{_≡_}
+use mathlib.Core.Bool.{false}
+use mathlib.Core.List.{List, [], _∷_, _++_}
+use lib.ListN.{length}
+use Rattle.model.specs.declared.order.Order.{Order}
+use Rattle.model.specs.declared.build.Build.{Build}
+use Rattle.model.specs.declared.answer.Answer.{Answer}
+use Rattle.model.specs.declared.answer.Answer.the-variants.{Done, Refused}
+use Rattle.model.specs.Limits.{buildLength}
+use Rattle.model.specs.Answer.{outputAfter}
+use Rattle.model.specs.Rules.{Rule, rule, firstBroken, roomRules}
+use Rattle.order.specs.Order.{orderAt, orderRules}
+use Rattle.build.specs.Build.{buildBytes}
+use Rattle.fit.specs.declared.state.Fitted.{Fitted}
+use Rattle.fit.specs.Recorded.{fitted}
+
+-- "An order's build is the one that first fit by decreasing volume gives"
+abbrev pub fittedOf : Order → Fitted
+fittedOf o = fitted (o .table) (o .tasks) (o .processors)
+
+-- 11: "first fit runs out", with the task that it names
+abbrev pub fitRules : Answer → List Rule
+fitRules (Done count) = []
+fitRules (Refused cause) = rule false cause ∷ []
+
+-- how many bytes a build has
+abbrev pub sizeOf : Build → ℕ
+sizeOf b = buildLength (b .partitions) (b .tasks)
+
+-- 11 and 12 of an order that was read
+unfoldable pub fittedRules : Fitted → ℕ → List Rule
+fittedRules found room = fitRules (found .answer) ++ roomRules (sizeOf (found .build)) room
+
+-- "then task by task 7 to 10; then 11, then 12"
+unfoldable pub planRules : List ℕ → ℕ → List Rule
+planRules order room = orderRules order ++ fittedRules (fittedOf (orderAt order)) room
+
+-- "count of bytes .. written"
+unfoldable pub planAnswer : List ℕ → ℕ → Answer
+planAnswer order room = firstBroken (sizeOf (fittedOf (orderAt order) .build)) (planRules order room)
+
+-- what planning promises: the answer, and all that the output holds
+pub record Plans (order output : List ℕ) (answer : Answer) (after : List ℕ) : Type 0 where
+  pub answered : answer ≡ planAnswer order (length output)
+  pub written : after ≡ outputAfter answer (buildBytes (fittedOf (orderAt order) .build)) output
+
+-- a build written where there is room for it
+pub record PutsBuild (build : Build) (output : List ℕ) (answer : Answer) (after : List ℕ) : Type 0 where
+  pub answered : answer ≡ firstBroken (sizeOf build) (roomRules (sizeOf build) (length output))
+  pub written : after ≡ outputAfter answer (buildBytes build) output
