@@ -6,6 +6,7 @@
 pub mod answer;
 pub mod bits;
 pub mod build;
+pub mod case;
 pub mod check;
 pub mod count;
 pub mod fit;

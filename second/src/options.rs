@@ -1,6 +1,6 @@
 //! The programs' options: `--cases N`, `--seed S`, `--each K`, `--only read,write,..`.
 
-use crate::generate::case::Operation;
+use crate::case::Operation;
 
 /// What to draw.
 pub struct Options {

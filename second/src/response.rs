@@ -68,7 +68,7 @@ impl<'a> Member<'a> {
         for q in (0..).take_while(|q| q * t < window) {
             let start = self.start(q, least, count).ok_or(Cause::Start)?;
             worst = worst.max(start + c - q * t);
-            least = start + c; // where start q is due, start q + 1 is due C later at the soonest
+            least = start + c; // the next start is C later at the soonest
         }
         (worst <= d).then_some(worst).ok_or(Cause::Late)
     }

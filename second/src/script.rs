@@ -22,7 +22,7 @@ impl Record {
 /// The records of a legal script with enough places: 40, 46, then record by record 41 to 45.
 pub fn read(script: &[u8], order: &Order, places: usize) -> Result<Vec<Record>, Refusal> {
     let length = Record::LAYOUT.bytes();
-    let fits = script.len() % length == 0 && script.len() <= length * Record::MOST;
+    let fits = script.len().is_multiple_of(length) && script.len() <= length * Record::MOST;
     Cause::ScriptLength.unless(fits)?;
     Cause::Places.unless(script.len() / length <= places)?;
 

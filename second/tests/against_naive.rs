@@ -3,13 +3,13 @@
 mod naive;
 
 use naive::Naive;
-use second::generate::case::{Case, Operation};
-use second::generate::Scale;
+use second::case::Operation;
+use second::generate::{cases, Scale};
 use second::program::Second;
 
 fn agree(operation: Operation, cases: u64, scale: Scale) {
     for index in 0..cases {
-        let case = Case::nth(7, index, &[operation], &scale);
+        let case = cases::nth(7, index, &[operation], &scale);
         let (fast, literal) = (case.outcome(&Second), case.outcome(&Naive));
         let told = || format!("{index}\n{}\n{}", case.line(&fast), case.line(&literal));
         assert!(fast == literal, "{}", told());

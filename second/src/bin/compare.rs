@@ -1,7 +1,8 @@
 //! Holds the static library against the second program, answer by answer and byte by byte.
 
 use second::answer::Answer;
-use second::generate::{case::Case, case::Operation, Scale};
+use second::case::Operation;
+use second::generate::{cases, Scale};
 use second::options::Options;
 use second::order::Order;
 use second::program::{Program, Second};
@@ -140,20 +141,20 @@ fn main() {
     let options = Options::from_arguments();
     let operations = operations(&options);
     let library = Library::default();
-    let mut tally = Tally::default();
+    let mut tally = Tally::new(&operations);
     for index in 0..options.cases {
-        let case = Case::nth(options.seed, index, &operations, &Scale::FULL);
+        let case = cases::nth(options.seed, index, &operations, &Scale::FULL);
         let ours = case.outcome(&Second);
         let theirs = case.outcome(&library);
         if ours != theirs || library.meddled.get() {
             println!("seed {} case {index}", options.seed);
             println!("second:  {}", case.line(&ours));
             println!("library: {}", case.line(&theirs));
+            if let Some(cell) = ours.first_difference(&theirs) {
+                println!("the outputs first differ in cell {cell}");
+            }
             if library.meddled.get() {
                 println!("the library changed an input");
-            } else if ours.answer == theirs.answer {
-                println!("memory second:  {:?} {:?}", ours.bytes, ours.words);
-                println!("memory library: {:?} {:?}", theirs.bytes, theirs.words);
             }
             exit(1);
         }

@@ -83,7 +83,7 @@ fn get(bytes: &[u8], at: usize, width: u32) -> u32 {
 }
 
 /// Gives the bits from one place on a value.
-fn set(bytes: &mut [u8], at: usize, width: u32, value: u32) {
+pub fn set(bytes: &mut [u8], at: usize, width: u32, value: u32) {
     for (i, place) in (at..at + width as usize).rev().enumerate() {
         let bit = 0x80 >> (place % 8);
         bytes[place / 8] &= !bit;

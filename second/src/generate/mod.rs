@@ -1,7 +1,7 @@
 //! Random orders, builds, scripts and whole cases, the same ones for the same seed.
 
 pub mod builds;
-pub mod case;
+pub mod cases;
 pub mod damage;
 pub mod orders;
 pub mod random;

@@ -95,7 +95,7 @@ fn brimming(random: &mut Random, scale: &Scale, n: u32) -> Vec<Task> {
     cuts.extend([0, t + random.below(3)]);
     cuts.sort();
     let shares = cuts.windows(2).map(|cut| cut[1] - cut[0]);
-    let mut task = |share: u32| {
+    let task = |share: u32| {
         let c = share.saturating_sub(random.below(2)).clamp(1, t);
         let d = if random.one_in(8) {
             random.between(c, t)
@@ -104,7 +104,7 @@ fn brimming(random: &mut Random, scale: &Scale, n: u32) -> Vec<Task> {
         };
         Task { m: 1, t, d, c }
     };
-    shares.map(|share| task(share)).collect()
+    shares.map(task).collect()
 }
 
 /// Gives tasks the width, period or deadline of their neighbours, as far as they allow it.

@@ -24,7 +24,7 @@ impl Random {
 
     /// From 0 up to, not including, a limit over 0.
     pub fn below(&mut self, limit: u32) -> u32 {
-        ((self.word() >> 32) * u64::from(limit) >> 32) as u32
+        (((self.word() >> 32) * u64::from(limit)) >> 32) as u32
     }
 
     /// From least to most.
