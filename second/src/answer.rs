@@ -19,22 +19,14 @@ impl Answer {
 
     /// The answer that a word holds.
     pub fn unpack(word: u64) -> Self {
-        Answer {
-            number: word as u16,
-            place: (word >> 16) as u16,
-            count: (word >> 32) as u32,
-        }
+        Answer { number: word as u16, place: (word >> 16) as u16, count: (word >> 32) as u32 }
     }
 }
 
 impl From<Result<usize, Refusal>> for Answer {
     fn from(result: Result<usize, Refusal>) -> Self {
         match result {
-            Ok(count) => Answer {
-                number: 0,
-                place: NO_PLACE,
-                count: count as u32,
-            },
+            Ok(count) => Answer { number: 0, place: NO_PLACE, count: count as u32 },
             Err(refusal) => Answer {
                 number: refusal.cause as u16,
                 place: refusal.place.map_or(NO_PLACE, |place| place as u16),
@@ -91,18 +83,12 @@ pub struct Refusal {
 impl Cause {
     /// This cause where no place applies.
     pub fn nowhere(self) -> Refusal {
-        Refusal {
-            cause: self,
-            place: None,
-        }
+        Refusal { cause: self, place: None }
     }
 
     /// This cause at a task, partition or record.
     pub fn at(self, place: usize) -> Refusal {
-        Refusal {
-            cause: self,
-            place: Some(place),
-        }
+        Refusal { cause: self, place: Some(place) }
     }
 
     /// Refuses without a place unless the rule holds.

@@ -29,9 +29,7 @@ impl<const K: usize> Layout<K> {
 
     /// The fields of each record in a list of them.
     pub fn read_all<'a>(&'a self, records: &'a [u8]) -> impl Iterator<Item = [u32; K]> + 'a {
-        records
-            .chunks_exact(self.bytes())
-            .map(|record| self.read(record))
+        records.chunks_exact(self.bytes()).map(|record| self.read(record))
     }
 
     /// Appends a record.

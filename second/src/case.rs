@@ -16,13 +16,8 @@ pub enum Operation {
 }
 
 impl Operation {
-    pub const ALL: [Operation; 5] = [
-        Operation::Read,
-        Operation::Write,
-        Operation::Plan,
-        Operation::Check,
-        Operation::Run,
-    ];
+    pub const ALL: [Operation; 5] =
+        [Operation::Read, Operation::Write, Operation::Plan, Operation::Check, Operation::Run];
 
     pub fn name(self) -> &'static str {
         ["read", "write", "plan", "check", "run"][self as usize]
@@ -43,28 +38,11 @@ impl Operation {
 /// What one operation is given.
 #[derive(Clone, Debug)]
 pub enum Case {
-    Read {
-        order: Vec<u8>,
-    },
-    Write {
-        processors: u32,
-        columns: [Vec<u32>; 4],
-        room: usize,
-    },
-    Plan {
-        order: Vec<u8>,
-        room: usize,
-    },
-    Check {
-        order: Vec<u8>,
-        build: Vec<u8>,
-    },
-    Run {
-        order: Vec<u8>,
-        build: Vec<u8>,
-        script: Vec<u8>,
-        room: usize,
-    },
+    Read { order: Vec<u8> },
+    Write { processors: u32, columns: [Vec<u32>; 4], room: usize },
+    Plan { order: Vec<u8>, room: usize },
+    Check { order: Vec<u8>, build: Vec<u8> },
+    Run { order: Vec<u8>, build: Vec<u8>, script: Vec<u8>, room: usize },
 }
 
 /// An answer, and the memory around and in the output afterwards.
@@ -109,11 +87,7 @@ impl Case {
                 let (numbers, _) = words[MARGIN..].split_first_chunk_mut().unwrap();
                 program.read_order(order, numbers)
             }
-            Case::Write {
-                processors,
-                columns,
-                room,
-            } => {
+            Case::Write { processors, columns, room } => {
                 bytes = sentinels(*room, |word| word as u8);
                 let columns = columns.each_ref().map(|column| &column[..]);
                 program.write_order(*processors, columns, inside(&mut bytes))
@@ -123,49 +97,29 @@ impl Case {
                 program.plan(order, inside(&mut bytes))
             }
             Case::Check { order, build } => program.check(order, build),
-            Case::Run {
-                order,
-                build,
-                script,
-                room,
-            } => {
+            Case::Run { order, build, script, room } => {
                 words = sentinels(*room, |word| word as u32);
                 program.run(order, build, script, inside(&mut words))
             }
         };
-        Outcome {
-            answer,
-            bytes,
-            words,
-        }
+        Outcome { answer, bytes, words }
     }
 
     /// The case and its outcome as a line of text, as the README says.
     pub fn line(&self, outcome: &Outcome) -> String {
         let given = match self {
             Case::Read { order } => hex(order),
-            Case::Write {
-                processors,
-                columns,
-                room,
-            } => {
+            Case::Write { processors, columns, room } => {
                 let [m, t, d, c] = columns.each_ref().map(|column| hex_words(column));
                 format!("{processors} {m} {t} {d} {c} {room}")
             }
             Case::Plan { order, room } => format!("{} {room}", hex(order)),
             Case::Check { order, build } => format!("{} {}", hex(order), hex(build)),
-            Case::Run {
-                order,
-                build,
-                script,
-                room,
-            } => format!("{} {} {} {room}", hex(order), hex(build), hex(script)),
+            Case::Run { order, build, script, room } => {
+                format!("{} {} {} {room}", hex(order), hex(build), hex(script))
+            }
         };
-        let Answer {
-            number,
-            place,
-            count,
-        } = outcome.answer;
+        let Answer { number, place, count } = outcome.answer;
         let written = match self {
             Case::Read { .. } if number == 0 => hex_words(&front(&outcome.words, Order::NUMBERS)),
             Case::Write { .. } | Case::Plan { .. } => hex(&front(&outcome.bytes, count as usize)),

@@ -48,11 +48,7 @@ fn read(bytes: &[u8], order: &Order) -> Result<Build, Refusal> {
             .read_all(seats)
             .map(|[partition, rank, response, spare]| {
                 spares |= spare;
-                Seat {
-                    partition,
-                    rank,
-                    response,
-                }
+                Seat { partition, rank, response }
             })
             .collect(),
     };

@@ -63,11 +63,7 @@ fn record(order: &Order, open: &[Open]) -> Build {
     let mut seats = vec![Seat::default(); order.tasks.len()];
     for (partition, part) in open.iter().enumerate() {
         for (rank, (&i, &response)) in part.roster.numbers.iter().zip(&part.responses).enumerate() {
-            seats[i] = Seat {
-                partition: partition as u32,
-                rank: rank as u32,
-                response,
-            };
+            seats[i] = Seat { partition: partition as u32, rank: rank as u32, response };
         }
     }
     Build {

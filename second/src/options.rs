@@ -25,12 +25,7 @@ impl Options {
     }
 
     fn parse(mut arguments: impl Iterator<Item = String>) -> Option<Options> {
-        let mut options = Options {
-            cases: 200_000,
-            seed: 1,
-            each: 4,
-            only: None,
-        };
+        let mut options = Options { cases: 200_000, seed: 1, each: 4, only: None };
         while let Some(name) = arguments.next() {
             let value = arguments.next()?;
             match name.as_str() {

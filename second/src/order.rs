@@ -71,12 +71,7 @@ impl Order {
         Cause::Columns.unless(columns.iter().all(|column| column.len() == n))?;
         Cause::Processors.unless(Self::PROCESSORS.contains(&processors))?;
         Cause::Tasks.unless((1..=32).contains(&n))?;
-        let row = |i| Task {
-            m: m[i],
-            t: t[i],
-            d: d[i],
-            c: c[i],
-        };
+        let row = |i| Task { m: m[i], t: t[i], d: d[i], c: c[i] };
         let tasks = (0..n).map(row).collect();
         Order { processors, tasks }.in_range()
     }

@@ -92,9 +92,7 @@ impl Roster {
     /// Takes in a member at its rank.
     pub fn add(&mut self, number: usize, task: Task) {
         let members = self.numbers.iter().zip(&self.tasks);
-        let rank = members
-            .take_while(|(&other, of)| (of.d, other) < (task.d, number))
-            .count();
+        let rank = members.take_while(|(&other, of)| (of.d, other) < (task.d, number)).count();
         self.numbers.insert(rank, number);
         self.tasks.insert(rank, task);
     }

@@ -32,9 +32,7 @@ pub fn read(script: &[u8], order: &Order, places: usize) -> Result<Vec<Record>, 
         Cause::ScriptSpare.unless_at(r, spare == 0)?;
         let task = task as usize;
         Cause::NoSuchTask.unless_at(r, task < order.tasks.len())?;
-        let rises = records
-            .last()
-            .is_none_or(|e| (e.tick, e.task) < (tick, task));
+        let rises = records.last().is_none_or(|e| (e.tick, e.task) < (tick, task));
         Cause::RecordOrder.unless_at(r, rises)?;
         Cause::JobLength.unless_at(r, (1..=order.tasks[task].c).contains(&length))?;
         Cause::Gap.unless_at(r, tick >= next_release[task])?;

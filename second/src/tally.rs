@@ -12,10 +12,7 @@ pub struct Tally {
 
 impl Tally {
     pub fn new(operations: &[Operation]) -> Tally {
-        Tally {
-            operations: operations.to_vec(),
-            counts: BTreeMap::new(),
-        }
+        Tally { operations: operations.to_vec(), counts: BTreeMap::new() }
     }
 
     pub fn add(&mut self, number: u16, operation: Operation) {
@@ -29,9 +26,7 @@ impl Tally {
     /// How often a number was answered by any operation.
     pub fn total(&self, number: u16) -> u32 {
         let operations = self.operations.iter();
-        operations
-            .map(|&operation| self.of(number, operation))
-            .sum()
+        operations.map(|&operation| self.of(number, operation)).sum()
     }
 
     /// The numbers that these operations can answer by the definition.

@@ -17,11 +17,7 @@ fn agree(operation: Operation, cases: u64, scale: Scale) {
 }
 
 /// Few tasks, but all periods: windows and starts up to the horizon.
-const LONG: Scale = Scale {
-    tasks: 3,
-    period: 1_000_000,
-    records: 4,
-};
+const LONG: Scale = Scale { tasks: 3, period: 1_000_000, records: 4 };
 
 #[test]
 fn read() {

@@ -16,27 +16,15 @@ fn bytes(hex: &str) -> Vec<u8> {
 
 fn order(processors: u32, tasks: &[[u32; 4]]) -> Vec<u8> {
     let tasks = tasks.iter().map(|&[m, t, d, c]| Task { m, t, d, c });
-    Order {
-        processors,
-        tasks: tasks.collect(),
-    }
-    .bytes()
+    Order { processors, tasks: tasks.collect() }.bytes()
 }
 
 fn done(count: u32) -> Answer {
-    Answer {
-        number: 0,
-        place: 65_535,
-        count,
-    }
+    Answer { number: 0, place: 65_535, count }
 }
 
 fn refused(number: u16, place: u16) -> Answer {
-    Answer {
-        number,
-        place,
-        count: 0,
-    }
+    Answer { number, place, count: 0 }
 }
 
 /// A partition whose members are (T, D, C).
@@ -138,6 +126,17 @@ fn p10_p11_p12_edges() {
     assert_eq!(answer([1, 1_000_001, 10, 10]), refused(8, 0));
     assert_eq!(answer([1, 10, 10, 10]), done(9));
     assert_eq!(answer([1, 10, 10, 11]), refused(10, 0));
+}
+
+/// A window of just H counts, though a second job is due at its end; one of H + 1 does not.
+#[test]
+fn horizon() {
+    let long = 1_000_000;
+    let roster = partition(&[(long, long, 600_000), (long, long, 400_000)]);
+    assert_eq!(roster.responses(&mut ()), Ok(vec![999_999, long]));
+    let first = |blocker| partition(&[(101, 101, 100), (long, long, blocker)]).response(0, &mut ());
+    assert_eq!(first(9_901), Err(Cause::Late)); // window 101 · 9,900
+    assert_eq!(first(9_902), Err(Cause::Window)); // 101 · 9,901 is H + 1
 }
 
 /// For the window of P5's third, 1, 12, 16, 24 and 28 are tried, each over three terms.

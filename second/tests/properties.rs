@@ -100,11 +100,7 @@ fn every_number_is_drawn() {
 
 #[test]
 fn answers_pack() {
-    let answer = Answer {
-        number: 11,
-        place: 2,
-        count: 195,
-    };
+    let answer = Answer { number: 11, place: 2, count: 195 };
     assert_eq!(answer.pack(), 195 << 32 | 2 << 16 | 11);
     assert_eq!(Answer::unpack(answer.pack()), answer);
 }

@@ -21,11 +21,7 @@ fn tasks(rows: &[(u32, u32, u32, u32)]) -> Vec<Task> {
 
 fn build(processors: u32, partitions: &[(u32, u32)], seats: &[(u32, u32, u32)]) -> Vec<u8> {
     let partition = |&(volume, first)| Partition { volume, first };
-    let seat = |&(partition, rank, response)| Seat {
-        partition,
-        rank,
-        response,
-    };
+    let seat = |&(partition, rank, response)| Seat { partition, rank, response };
     Build {
         processors,
         partitions: partitions.iter().map(partition).collect(),
@@ -44,10 +40,7 @@ const PARTS: [(u32, u32); 2] = [(2, 0), (1, 2)];
 const SEATS: [(u32, u32, u32); 3] = [(0, 0, 7), (0, 1, 8), (1, 0, 4)];
 
 fn sample() -> Sample {
-    let order = Order {
-        processors: 4,
-        tasks: tasks(&ROWS),
-    };
+    let order = Order { processors: 4, tasks: tasks(&ROWS) };
     Sample {
         order: order.bytes(),
         build: build(4, &PARTS, &SEATS),
@@ -62,11 +55,7 @@ fn order_bit(task: usize, field: usize) -> usize {
 }
 
 fn refused(number: u16, place: u16) -> Answer {
-    Answer {
-        number,
-        place,
-        count: 0,
-    }
+    Answer { number, place, count: 0 }
 }
 
 /// Alters the order, and expects a refusal from reading, planning, checking and running.
@@ -75,16 +64,10 @@ fn order_refused(number: u16, place: u16, alter: impl Fn(&mut Vec<u8>)) {
     let mut sample = sample();
     alter(&mut sample.order);
     let mut numbers = [9; 130];
-    assert_eq!(
-        second::read_order(&sample.order, &mut numbers),
-        refused(number, place)
-    );
+    assert_eq!(second::read_order(&sample.order, &mut numbers), refused(number, place));
     assert_eq!(numbers, [9; 130]);
     let mut out = [9; 200];
-    assert_eq!(
-        second::plan(&sample.order, &mut out),
-        refused(number, place)
-    );
+    assert_eq!(second::plan(&sample.order, &mut out), refused(number, place));
     assert_eq!(out, [9; 200]);
     sample.build.clear();
     sample.expect(number, place);
@@ -126,11 +109,7 @@ impl Sample {
 
 #[test]
 fn the_sample_is_accepted() {
-    let done = Answer {
-        number: 0,
-        place: NO_PLACE,
-        count: 4,
-    };
+    let done = Answer { number: 0, place: NO_PLACE, count: 4 };
     assert_eq!(sample().run(), done);
 }
 
@@ -182,16 +161,10 @@ fn order_of_the_order() {
 
 #[test]
 fn of_the_plan() {
-    let order = Order {
-        processors: 2,
-        tasks: tasks(&ROWS),
-    };
+    let order = Order { processors: 2, tasks: tasks(&ROWS) };
     assert_eq!(second::plan(&order.bytes(), &mut []), refused(11, 2));
     let mut out = [9; 18];
-    assert_eq!(
-        second::plan(&sample().order, &mut out),
-        refused(12, NO_PLACE)
-    );
+    assert_eq!(second::plan(&sample().order, &mut out), refused(12, NO_PLACE));
     assert_eq!(out, [9; 18]);
 }
 
@@ -237,33 +210,18 @@ fn of_the_build() {
     build_refused(24, 1, |build| *build = other(&[(2, 0), (1, 4)], &SEATS));
     build_refused(24, 1, |build| *build = other(&[(2, 0), (2, 1)], &SEATS));
     build_refused(24, 1, |build| *build = other(&[(1, 1), (4, 0)], &SEATS));
-    build_refused(25, 1, |build| {
-        *build = other(&PARTS, &[(0, 0, 7), (2, 1, 8), (1, 0, 4)])
-    });
-    build_refused(25, 0, |build| {
-        *build = other(&PARTS, &[(1, 0, 7), (0, 1, 8), (1, 0, 4)])
-    });
-    build_refused(26, 1, |build| {
-        *build = other(&PARTS, &[(0, 0, 7), (0, 0, 8), (1, 0, 4)])
-    });
-    build_refused(29, 2, |build| {
-        *build = other(&PARTS, &[(0, 0, 7), (0, 1, 11), (0, 2, 14)])
-    });
-    build_refused(30, 0, |build| {
-        *build = other(&PARTS, &[(0, 0, 6), (0, 1, 8), (1, 0, 4)])
-    });
-    build_refused(30, 2, |build| {
-        *build = other(&PARTS, &[(0, 0, 7), (0, 1, 8), (1, 0, 5)])
-    });
+    build_refused(25, 1, |build| *build = other(&PARTS, &[(0, 0, 7), (2, 1, 8), (1, 0, 4)]));
+    build_refused(25, 0, |build| *build = other(&PARTS, &[(1, 0, 7), (0, 1, 8), (1, 0, 4)]));
+    build_refused(26, 1, |build| *build = other(&PARTS, &[(0, 0, 7), (0, 0, 8), (1, 0, 4)]));
+    build_refused(29, 2, |build| *build = other(&PARTS, &[(0, 0, 7), (0, 1, 11), (0, 2, 14)]));
+    build_refused(30, 0, |build| *build = other(&PARTS, &[(0, 0, 6), (0, 1, 8), (1, 0, 4)]));
+    build_refused(30, 2, |build| *build = other(&PARTS, &[(0, 0, 7), (0, 1, 8), (1, 0, 5)]));
 }
 
 /// P8 in one partition: the first task passes with 10, the second has no window.
 #[test]
 fn of_the_window() {
-    let order = Order {
-        processors: 1,
-        tasks: tasks(&[(1, 10, 10, 6), (1, 10, 10, 5)]),
-    };
+    let order = Order { processors: 1, tasks: tasks(&[(1, 10, 10, 6), (1, 10, 10, 5)]) };
     let checked = |first| {
         let build = build(1, &[(1, 0)], &[(0, 0, first), (0, 1, 10)]);
         second::check(&order.bytes(), &build)
@@ -275,11 +233,7 @@ fn of_the_window() {
 /// Empty, wide and unordered partitions are no cause.
 #[test]
 fn odd_builds_are_accepted() {
-    let odd = build(
-        4,
-        &[(1, 3), (1, 0), (2, 1)],
-        &[(2, 0, 7), (2, 1, 8), (1, 0, 4)],
-    );
+    let odd = build(4, &[(1, 3), (1, 0), (2, 1)], &[(2, 0, 7), (2, 1, 8), (1, 0, 4)]);
     assert_eq!(second::check(&sample().order, &odd).number, 0);
 }
 
@@ -295,16 +249,10 @@ fn of_the_script() {
     run_refused(41, 3, |sample| set(&mut sample.script, 3 * 48 + 45, 3, 2));
     run_refused(41, 0, |sample| sample.script = vec![255; 6]);
     run_refused(42, 1, |sample| set(&mut sample.script, 48 + 20, 5, 3));
-    run_refused(43, 2, |sample| {
-        sample.script = script(&[(0, 1, 4), (1, 2, 4), (1, 0, 5)])
-    });
-    run_refused(43, 1, |sample| {
-        sample.script = script(&[(5, 1, 4), (5, 1, 4)])
-    });
+    run_refused(43, 2, |sample| sample.script = script(&[(0, 1, 4), (1, 2, 4), (1, 0, 5)]));
+    run_refused(43, 1, |sample| sample.script = script(&[(5, 1, 4), (5, 1, 4)]));
     run_refused(44, 0, |sample| sample.script = script(&[(0, 1, 0)]));
-    run_refused(44, 1, |sample| {
-        sample.script = script(&[(0, 1, 4), (9, 1, 5)])
-    });
+    run_refused(44, 1, |sample| sample.script = script(&[(0, 1, 4), (9, 1, 5)]));
     run_refused(45, 3, |sample| {
         sample.script = script(&[(0, 1, 4), (1, 0, 4), (1, 2, 3), (10, 0, 1)])
     });

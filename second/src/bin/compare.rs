@@ -44,12 +44,7 @@ surface! {
 }
 
 #[cfg_attr(
-    any(
-        feature = "read_write",
-        feature = "plan",
-        feature = "check",
-        feature = "run"
-    ),
+    any(feature = "read_write", feature = "plan", feature = "check", feature = "run"),
     link(name = "jefkantu", kind = "static")
 )]
 extern "C" {}
@@ -69,11 +64,8 @@ impl Library {
         call: impl FnOnce([(*const T, usize); K]) -> u64,
     ) -> Answer {
         let mut copies = inputs.map(<[T]>::to_vec);
-        let word = call(
-            copies
-                .each_mut()
-                .map(|copy| (copy.as_mut_ptr().cast_const(), copy.len())),
-        );
+        let lent = copies.each_mut().map(|copy| (copy.as_mut_ptr().cast_const(), copy.len()));
+        let word = call(lent);
         let kept = copies.iter().zip(inputs).all(|(copy, input)| copy == input);
         self.meddled.set(self.meddled.get() || !kept);
         Answer::unpack(word)
@@ -82,9 +74,7 @@ impl Library {
 
 impl Program for Library {
     fn read_order(&self, order: &[u8], numbers: &mut [u32; Order::NUMBERS]) -> Answer {
-        self.lend([order], |[o]| unsafe {
-            jefkantu_read_order(o.0, o.1, numbers)
-        })
+        self.lend([order], |[o]| unsafe { jefkantu_read_order(o.0, o.1, numbers) })
     }
 
     fn write_order(&self, processors: u32, columns: [&[u32]; 4], out: &mut [u8]) -> Answer {
@@ -95,15 +85,11 @@ impl Program for Library {
     }
 
     fn plan(&self, order: &[u8], out: &mut [u8]) -> Answer {
-        self.lend([order], |[o]| unsafe {
-            jefkantu_plan(o.0, o.1, out.as_mut_ptr(), out.len())
-        })
+        self.lend([order], |[o]| unsafe { jefkantu_plan(o.0, o.1, out.as_mut_ptr(), out.len()) })
     }
 
     fn check(&self, order: &[u8], build: &[u8]) -> Answer {
-        self.lend([order, build], |[o, b]| unsafe {
-            jefkantu_check(o.0, o.1, b.0, b.1)
-        })
+        self.lend([order, build], |[o, b]| unsafe { jefkantu_check(o.0, o.1, b.0, b.1) })
     }
 
     fn run(&self, order: &[u8], build: &[u8], script: &[u8], out: &mut [u32]) -> Answer {

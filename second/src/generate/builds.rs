@@ -10,21 +10,13 @@ use crate::response::Roster;
 ///
 /// Partitions lie in any order on the processors, some of them empty or wider than needed.
 pub fn by_hand(random: &mut Random, order: &Order) -> Build {
-    let mut rosters = if random.one_in(4) {
-        blind(random, order)
-    } else {
-        sensible(random, order)
-    };
+    let mut rosters = if random.one_in(4) { blind(random, order) } else { sensible(random, order) };
     while width(&rosters) > order.processors && rosters.len() > 1 {
         merge_last(order, &mut rosters);
     }
     add_empty(random, order, &mut rosters);
     let partitions = lay_out(random, order, &rosters);
-    Build {
-        processors: order.processors,
-        partitions,
-        seats: seats(random, order, &rosters),
-    }
+    Build { processors: order.processors, partitions, seats: seats(random, order, &rosters) }
 }
 
 /// The fields of a build on the wire.
@@ -64,9 +56,7 @@ fn passes(roster: &Roster) -> bool {
 
 /// Whether tasks ask for more than all ticks, so that searching for a window is idle.
 fn overfull(tasks: &[Task]) -> bool {
-    let shares = tasks
-        .iter()
-        .map(|task| f64::from(task.c) / f64::from(task.t));
+    let shares = tasks.iter().map(|task| f64::from(task.c) / f64::from(task.t));
     shares.sum::<f64>() > 1.000_001
 }
 
@@ -98,24 +88,26 @@ fn merge_last(order: &Order, rosters: &mut Vec<Roster>) {
     }
 }
 
-/// Adds partitions without members now and then, as far as processors are left.
+/// Adds some or many partitions without members, as far as processors are left.
 fn add_empty(random: &mut Random, order: &Order, rosters: &mut Vec<Roster>) {
-    while rosters.len() < 32 && width(rosters) < order.processors && random.one_in(4) {
-        let at = random.below(rosters.len() as u32 + 1);
-        rosters.insert(at as usize, Roster::default());
+    let more = match random.below(8) {
+        0 => 32,
+        1 | 2 => random.spread(1, 32),
+        _ => 0,
+    };
+    for _ in 0..more {
+        if rosters.len() < 32 && width(rosters) < order.processors {
+            let at = random.below(rosters.len() as u32 + 1);
+            rosters.insert(at as usize, Roster::default());
+        }
     }
 }
 
 /// Places for the partitions, apart and in any order, the processors left over shared out.
 fn lay_out(random: &mut Random, order: &Order, rosters: &[Roster]) -> Vec<Partition> {
     let mut left = order.processors.saturating_sub(width(rosters));
-    let mut partitions: Vec<Partition> = rosters
-        .iter()
-        .map(|roster| Partition {
-            volume: volume(roster),
-            first: 0,
-        })
-        .collect();
+    let mut partitions: Vec<Partition> =
+        rosters.iter().map(|roster| Partition { volume: volume(roster), first: 0 }).collect();
     let mut turns: Vec<usize> = (0..partitions.len()).collect();
     random.shuffle(&mut turns);
     let mut first = 0;

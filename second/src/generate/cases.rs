@@ -42,11 +42,11 @@ fn order_bytes(random: &mut Random, order: &Order, damaged: u32) -> Vec<u8> {
 
 /// A build's bytes, by first fit or by hand, damaged once in so many times.
 fn build_bytes(random: &mut Random, order: &Order, damaged: u32) -> Vec<u8> {
-    let planned = match random.one_in(2) {
-        true => first_fit(order, &mut ()).ok(),
-        false => None,
+    let planned = random.one_in(2).then(|| first_fit(order, &mut ()));
+    let build = match planned {
+        Some(Ok(build)) => build,
+        _ => builds::by_hand(random, order),
     };
-    let build = planned.unwrap_or_else(|| builds::by_hand(random, order));
     let mut bytes = build.bytes();
     if random.one_in(damaged) {
         damage::damage(random, &mut bytes, &builds::sections(&build));
@@ -64,76 +64,66 @@ fn room(random: &mut Random, needed: usize) -> usize {
     }
 }
 
+/// An order to read, damaged or not.
 fn read(random: &mut Random, scale: &Scale) -> Case {
     let order = orders::order(random, scale);
-    Case::Read {
-        order: order_bytes(random, &order, 2),
-    }
+    Case::Read { order: order_bytes(random, &order, 2) }
 }
 
+/// An order in columns, spoilt or not.
 fn write(random: &mut Random, scale: &Scale) -> Case {
     let order = orders::order(random, scale);
     let column = |field: fn(&Task) -> u32| order.tasks.iter().map(field).collect();
-    let mut columns: [Vec<u32>; 4] = [
+    let mut processors = order.processors;
+    let mut columns = [
         column(|task| task.m),
         column(|task| task.t),
         column(|task| task.d),
         column(|task| task.c),
     ];
-    let mut processors = order.processors;
-    match random.below(16) {
-        0 => processors = random.pick(&[0, 65, 64, 128 + processors, u32::MAX]),
-        1 => columns.iter_mut().for_each(Vec::clear),
-        2 => columns
-            .iter_mut()
-            .for_each(|column| column.resize(random.pick(&[32, 33, 40, 64]), 1)),
-        3 | 4 => {
-            let column = &mut columns[random.below(4) as usize];
-            let length = column.len() as u32 + 2;
-            column.resize(random.below(length) as usize, 1);
-        }
-        5..=8 => {
-            let column = &mut columns[random.below(4) as usize];
-            let cell = random.below(column.len() as u32) as usize;
-            let old = column[cell];
-            let near = [
-                0,
-                old + 1,
-                old.wrapping_sub(1),
-                1_000_001,
-                1 << 20,
-                u32::MAX,
-            ];
-            column[cell] = random.pick(&near);
-        }
-        _ => {}
+    if random.one_in(2) {
+        spoil(random, &mut processors, &mut columns);
     }
-    let needed = order.bytes().len();
-    Case::Write {
-        processors,
-        columns,
-        room: room(random, needed),
+    Case::Write { processors, columns, room: room(random, order.bytes().len()) }
+}
+
+/// Spoils M, n, the length of a column or one number in it.
+fn spoil(random: &mut Random, processors: &mut u32, columns: &mut [Vec<u32>; 4]) {
+    let chosen = random.below(4) as usize;
+    match random.below(8) {
+        0 => *processors = random.pick(&[0, 65, 64, 128 + *processors, u32::MAX]),
+        1 => {
+            let n = random.pick(&[0, 32, 33, 64]);
+            columns.iter_mut().for_each(|column| column.resize(n, 1));
+        }
+        2 => {
+            let longest = columns[chosen].len() as u32 + 1;
+            columns[chosen].resize(random.between(0, longest) as usize, 1);
+        }
+        _ => {
+            let row = random.below(columns[chosen].len() as u32) as usize;
+            let number = &mut columns[chosen][row];
+            let (more, less) = (*number + 1, *number - 1);
+            *number = random.pick(&[0, more, less, 1_000_001, 1 << 20, u32::MAX]);
+        }
     }
 }
 
+/// An order to plan, and room around what its build takes.
 fn plan(random: &mut Random, scale: &Scale) -> Case {
     let order = orders::order(random, scale);
     let needed = first_fit(&order, &mut ()).map_or(195, |build| build.bytes().len());
-    Case::Plan {
-        order: order_bytes(random, &order, 6),
-        room: room(random, needed),
-    }
+    Case::Plan { order: order_bytes(random, &order, 6), room: room(random, needed) }
 }
 
+/// An order and a build, damaged or not.
 fn check(random: &mut Random, scale: &Scale) -> Case {
     let order = orders::order(random, scale);
     let build = build_bytes(random, &order, 2);
-    Case::Check {
-        order: order_bytes(random, &order, 16),
-        build,
-    }
+    Case::Check { order: order_bytes(random, &order, 16), build }
 }
 
+/// An order, a build that is mostly sound, and a script, legal or not.
 fn run(random: &mut Random, scale: &Scale) -> Case {
     let order = acceptable(random, scale);
     let build = build_bytes(random, &order, 32);

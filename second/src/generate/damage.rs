@@ -11,10 +11,7 @@ pub struct Section {
 
 impl Section {
     pub fn new(widths: &[u32], records: usize) -> Self {
-        Section {
-            widths: widths.to_vec(),
-            records,
-        }
+        Section { widths: widths.to_vec(), records }
     }
 
     fn record_bits(&self) -> usize {

@@ -10,7 +10,7 @@ pub mod scripts;
 use crate::order::Task;
 
 /// How large the drawn things may get.
-#[derive(Clone, Copy, Debug)]
+#[derive(Clone, Copy, Debug, PartialEq, Eq)]
 pub struct Scale {
     pub tasks: u32,
     pub period: u32,
@@ -19,15 +19,7 @@ pub struct Scale {
 
 impl Scale {
     /// All that the definition allows.
-    pub const FULL: Scale = Scale {
-        tasks: 32,
-        period: Task::PERIOD,
-        records: 1_024,
-    };
+    pub const FULL: Scale = Scale { tasks: 32, period: Task::PERIOD, records: 1_024 };
     /// Small enough to try every tick.
-    pub const SMALL: Scale = Scale {
-        tasks: 5,
-        period: 24,
-        records: 40,
-    };
+    pub const SMALL: Scale = Scale { tasks: 5, period: 24, records: 40 };
 }

@@ -18,21 +18,11 @@ pub fn legal(random: &mut Random, order: &Order, scale: &Scale) -> Vec<Record> {
         _ => random.spread(0, scale.records / 8),
     };
     let common = random.one_in(2);
-    let (first, loose, full) = (
-        random.spread(0, scale.period),
-        random.below(3),
-        random.one_in(2),
-    );
+    let (first, loose, full) = (random.spread(0, scale.period), random.below(3), random.one_in(2));
     let mut next: Vec<u32> = order
         .tasks
         .iter()
-        .map(|task| {
-            if common {
-                first
-            } else {
-                random.spread(0, 2 * task.t)
-            }
-        })
+        .map(|task| if common { first } else { random.spread(0, 2 * task.t) })
         .collect();
     let mut records = Vec::new();
     for _ in 0..wanted {
@@ -67,10 +57,7 @@ pub fn misdraw(random: &mut Random, records: &mut Vec<Record>) {
         1 => records.insert(at, records[at]),
         2 => {
             let tick = records[at].tick + random.between(1, 3);
-            let again = Record {
-                tick: tick & mask(20),
-                ..records[at]
-            };
+            let again = Record { tick: tick & mask(20), ..records[at] };
             records.push(again);
             records.sort_by_key(|record| (record.tick, record.task));
         }
