@@ -1,5 +1,5 @@
 -- The claims of specs/Claims.antt, proved.
-use mathlib.Core.Path.{_≡_, refl, sym, ap, _∙_, subst}
+use mathlib.Core.Path.{_≡_, sym, ap, _∙_, subst}
 use mathlib.Core.List.{List, _++_}
 use Prim.Native.Nat.{ℕ, _≤_}
 use lib.ListN.{length, take, drop}
@@ -8,19 +8,20 @@ use Rattle.laws.proofs.Filled.{length-filled, filled-past}
 use Rattle.model.specs.declared.order.Order.{Order}
 use Rattle.model.specs.declared.answer.Reading.{Reading}
 use Rattle.model.specs.declared.answer.Answer.{Answer}
-use Rattle.model.specs.declared.answer.Answer.the-variants.{Done, Refused}
+use Rattle.model.specs.declared.answer.Answer.the-variants.{Done}
 use Rattle.model.specs.Answer.{outputAfter}
 use Rattle.model.specs.Limits.{mostTasks, orderLength, zeroTask}
-use Rattle.model.specs.Rules.{Rule, firstBroken, allHold, rangeRules, roomRules, WithinLimits}
+use Rattle.model.specs.Rules.{Rule, allHold, rangeRules, roomRules, WithinLimits}
 use Rattle.model.proofs.Output.{after-done, only-counted-front}
 use Rattle.model.proofs.Rules.{done-hold, done-count, refused-broken, broken-refused, hold-front, hold-rest, range-at, room-fits}
-use Rattle.order.specs.Order.{orderBytes, orderAt, orderRules, readingOf, readOrder}
+use Rattle.order.specs.Order.{orderBytes, orderAt, orderRules, readOrder}
 use Rattle.order_out.specs.Write.{columnTask, columnOrder, columnRules, writeRules, writeAnswer, Writes}
 use Rattle.order_out.proofs.Bytes.{length-order}
 use Rattle.order_out.proofs.Rules.{ColumnsPassed, columns-passed}
 use Rattle.order_facts.specs.Claims.{ReadingGivesBack, BytesReadBack, AcceptedExactly, AcceptedWithinLimits, ReadRefusedForItsCause, WriteRefusedForItsCause, RefusedReadsZero, WritesOnlyCountedFront, ReadingUnique, WritingUnique}
 use Rattle.order_facts.proofs.Back.{bytes-read-back}
-use Rattle.order_facts.proofs.Forth.{bytes-are, within-limits}
+use Rattle.order.proofs.Reading.{read-answer, read-rules, read-order, within-limits}
+use Rattle.order_facts.proofs.Forth.{bytes-are}
 
 pub reading-unique : ReadingUnique
 reading-unique s one other e f = e ∙ sym f
@@ -29,22 +30,6 @@ pub writing-unique : WritingUnique
 writing-unique processors widths periods deadlines runs output one other after after′ w v =
     let same : one ≡ other = w .answered ∙ sym (v .answered) in
     (same, w .written ∙ ap (λ (a : Answer). outputAfter a (orderBytes (columnOrder processors widths periods deadlines runs)) output) same ∙ sym (v .written))
-
--- what a reading answers
-answer-of : (a : Answer) (o : Order) → readingOf a o .answer ≡ a
-answer-of (Done count) o = refl
-answer-of (Refused cause) o = refl
-
-read-answer : (s : List ℕ) → readOrder s .answer ≡ firstBroken 0 (orderRules s)
-unfolding readOrder
-read-answer s = answer-of (firstBroken 0 (orderRules s)) (orderAt s)
-
-read-rules : (s : List ℕ) → readOrder s .answer ≡ Done 0 → allHold (orderRules s)
-read-rules s e = done-hold 0 (orderRules s) (sym (read-answer s) ∙ e)
-
-read-order : (s : List ℕ) → readOrder s .answer ≡ Done 0 → readOrder s .order ≡ orderAt s
-unfolding readOrder
-read-order s e = rw (sym (read-answer s) ∙ e)
 
 pub accepted-within-limits : AcceptedWithinLimits
 accepted-within-limits s e = rw (read-order s e) (within-limits s (read-rules s e))

@@ -1,0 +1,53 @@
+-- What an accepted reading says: its answer, its order, and that the order is within the limits.
+use mathlib.Core.Path.{_≡_, refl, sym, _∙_}
+use mathlib.Core.List.{List}
+use Prim.Native.Nat.{ℕ, _<_}
+use lib.ListN.{length}
+use Rattle.laws.proofs.Filled.{length-filled, filled-past}
+use Rattle.model.specs.declared.order.Order.{Order}
+use Rattle.model.specs.declared.answer.Answer.{Answer}
+use Rattle.model.specs.declared.answer.Answer.the-variants.{Done, Refused}
+use Rattle.model.specs.Limits.{mostTasks, zeroTask}
+use Rattle.model.specs.Rules.{firstBroken, allHold, WithinLimits}
+use Rattle.model.proofs.Rules.{done-hold, hold-front, hold-rest, range-at}
+use Rattle.order.specs.Order.{headerOf, taskAt, taskSpareAt, orderAt, headerRules, layoutRules, orderRules, readingOf, readOrder}
+use Rattle.order.proofs.Rules.{HeaderSound, layout-header, spare-at}
+
+answer-of : (a : Answer) (o : Order) → readingOf a o .answer ≡ a
+answer-of (Done count) o = refl
+answer-of (Refused cause) o = refl
+
+pub read-answer : (s : List ℕ) → readOrder s .answer ≡ firstBroken 0 (orderRules s)
+unfolding readOrder
+read-answer s = answer-of (firstBroken 0 (orderRules s)) (orderAt s)
+
+module _ (s : List ℕ) {count : ℕ} (done : readOrder s .answer ≡ Done count) where
+  pub read-rules : allHold (orderRules s)
+  read-rules = done-hold 0 (orderRules s) (sym (read-answer s) ∙ done)
+
+  pub read-order : readOrder s .order ≡ orderAt s
+  unfolding readOrder
+  read-order = rw (sym (read-answer s) ∙ done)
+
+module _ (s : List ℕ) (rules : allHold (orderRules s)) where
+  layout-holds : allHold (layoutRules s)
+  unfolding orderRules
+  layout-holds = hold-front (layoutRules s) _ rules
+
+  pub header-holds : HeaderSound (length s) (headerOf s)
+  header-holds = layout-header s layout-holds
+
+  pub spares-hold : (i : ℕ) → i < headerOf s .tasks → taskSpareAt s i ≡ 0
+  unfolding layoutRules
+  spares-hold = spare-at s (headerOf s .tasks) (hold-rest (headerRules (length s) (headerOf s)) _ layout-holds)
+
+  pub within-limits : WithinLimits (orderAt s)
+  unfolding orderAt orderRules
+  within-limits =
+      record {
+        processors = header-holds .processors;
+        tasks = header-holds .tasks;
+        places = length-filled (taskAt s) zeroTask mostTasks (headerOf s .tasks) (header-holds .tasks .1);
+        each = range-at _ _ _ (hold-rest (layoutRules s) _ rules);
+        zero-past = λ i past. filled-past (taskAt s) zeroTask mostTasks (headerOf s .tasks) i past;
+      }

@@ -1,0 +1,151 @@
+//! Holds the static library against the second program, answer by answer and byte by byte.
+
+use second::answer::Answer;
+use second::case::Operation;
+use second::generate::{cases, Scale};
+use second::options::Options;
+use second::order::Order;
+use second::program::{Program, Second};
+use second::tally::Tally;
+use std::cell::Cell;
+use std::process::exit;
+
+/// Declares C names where their feature is on; elsewhere they stand for a name not linked.
+macro_rules! surface {
+    ($($feature:tt fn $name:ident($($argument:ident: $kind:ty),* $(,)?);)*) => {$(
+        #[cfg(feature = $feature)]
+        extern "C" {
+            fn $name($($argument: $kind),*) -> u64;
+        }
+        #[cfg(not(feature = $feature))]
+        #[allow(clippy::too_many_arguments)]
+        unsafe fn $name($(_: $kind),*) -> u64 {
+            unreachable!("{} is not linked", stringify!($name))
+        }
+    )*};
+}
+
+surface! {
+    "read_write" fn jefkantu_read_order(
+        order: *const u8, order_len: usize, numbers: *mut [u32; Order::NUMBERS],
+    );
+    "read_write" fn jefkantu_write_order(
+        procs: u32, m: *const u32, m_len: usize, t: *const u32, t_len: usize,
+        d: *const u32, d_len: usize, c: *const u32, c_len: usize, out: *mut u8, out_len: usize,
+    );
+    "plan" fn jefkantu_plan(order: *const u8, order_len: usize, out: *mut u8, out_len: usize);
+    "check" fn jefkantu_check(
+        order: *const u8, order_len: usize, build: *const u8, build_len: usize,
+    );
+    "run" fn jefkantu_run(
+        order: *const u8, order_len: usize, build: *const u8, build_len: usize,
+        script: *const u8, script_len: usize, out: *mut u32, out_len: usize,
+    );
+}
+
+#[cfg_attr(
+    any(feature = "read_write", feature = "plan", feature = "check", feature = "run"),
+    link(name = "jefkantu", kind = "static")
+)]
+extern "C" {}
+
+/// The static library.
+#[derive(Default)]
+struct Library {
+    /// Whether it ever changed an input.
+    meddled: Cell<bool>,
+}
+
+impl Library {
+    /// Calls the library with copies of the inputs, each as a pointer and a length.
+    fn lend<T: Copy + PartialEq, const K: usize>(
+        &self,
+        inputs: [&[T]; K],
+        call: impl FnOnce([(*const T, usize); K]) -> u64,
+    ) -> Answer {
+        let mut copies = inputs.map(<[T]>::to_vec);
+        let lent = copies.each_mut().map(|copy| (copy.as_mut_ptr().cast_const(), copy.len()));
+        let word = call(lent);
+        let kept = copies.iter().zip(inputs).all(|(copy, input)| copy == input);
+        self.meddled.set(self.meddled.get() || !kept);
+        Answer::unpack(word)
+    }
+}
+
+impl Program for Library {
+    fn read_order(&self, order: &[u8], numbers: &mut [u32; Order::NUMBERS]) -> Answer {
+        self.lend([order], |[o]| unsafe { jefkantu_read_order(o.0, o.1, numbers) })
+    }
+
+    fn write_order(&self, processors: u32, columns: [&[u32]; 4], out: &mut [u8]) -> Answer {
+        let (to, room) = (out.as_mut_ptr(), out.len());
+        self.lend(columns, |[m, t, d, c]| unsafe {
+            jefkantu_write_order(processors, m.0, m.1, t.0, t.1, d.0, d.1, c.0, c.1, to, room)
+        })
+    }
+
+    fn plan(&self, order: &[u8], out: &mut [u8]) -> Answer {
+        self.lend([order], |[o]| unsafe { jefkantu_plan(o.0, o.1, out.as_mut_ptr(), out.len()) })
+    }
+
+    fn check(&self, order: &[u8], build: &[u8]) -> Answer {
+        self.lend([order, build], |[o, b]| unsafe { jefkantu_check(o.0, o.1, b.0, b.1) })
+    }
+
+    fn run(&self, order: &[u8], build: &[u8], script: &[u8], out: &mut [u32]) -> Answer {
+        let (to, room) = (out.as_mut_ptr(), out.len());
+        self.lend([order, build, script], |[o, b, s]| unsafe {
+            jefkantu_run(o.0, o.1, b.0, b.1, s.0, s.1, to, room)
+        })
+    }
+}
+
+/// Whether the library's operation is linked.
+fn linked(operation: &Operation) -> bool {
+    match operation {
+        Operation::Read | Operation::Write => cfg!(feature = "read_write"),
+        Operation::Plan => cfg!(feature = "plan"),
+        Operation::Check => cfg!(feature = "check"),
+        Operation::Run => cfg!(feature = "run"),
+    }
+}
+
+/// The operations to compare: those asked for, or all that are linked.
+fn operations(options: &Options) -> Vec<Operation> {
+    let mut operations = options.operations();
+    if options.only.is_none() {
+        operations.retain(linked);
+    }
+    if operations.is_empty() || !operations.iter().all(linked) {
+        eprintln!("not linked; build with --features read_write,plan,check,run as needed");
+        exit(2)
+    }
+    operations
+}
+
+fn main() {
+    let options = Options::from_arguments();
+    let operations = operations(&options);
+    let library = Library::default();
+    let mut tally = Tally::new(&operations);
+    for index in 0..options.cases {
+        let case = cases::nth(options.seed, index, &operations, &Scale::FULL);
+        let ours = case.outcome(&Second);
+        let theirs = case.outcome(&library);
+        if ours != theirs || library.meddled.get() {
+            println!("seed {} case {index}", options.seed);
+            println!("second:  {}", case.line(&ours));
+            println!("library: {}", case.line(&theirs));
+            if let Some(cell) = ours.first_difference(&theirs) {
+                println!("the outputs first differ in cell {cell}");
+            }
+            if library.meddled.get() {
+                println!("the library changed an input");
+            }
+            exit(1);
+        }
+        tally.add(ours.answer.number, case.operation());
+    }
+    print!("{tally}");
+    println!("{} cases of seed {} agree", options.cases, options.seed);
+}

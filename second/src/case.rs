@@ -1,0 +1,164 @@
+//! Whole cases: an operation, its inputs and the room for its output.
+
+use crate::answer::Answer;
+use crate::generate::random::Random;
+use crate::order::Order;
+use crate::program::Program;
+
+/// The five operations.
+#[derive(Clone, Copy, Debug, PartialEq, Eq, PartialOrd, Ord)]
+pub enum Operation {
+    Read,
+    Write,
+    Plan,
+    Check,
+    Run,
+}
+
+impl Operation {
+    pub const ALL: [Operation; 5] =
+        [Operation::Read, Operation::Write, Operation::Plan, Operation::Check, Operation::Run];
+
+    pub fn name(self) -> &'static str {
+        ["read", "write", "plan", "check", "run"][self as usize]
+    }
+
+    /// Whether the definition lists a number among this operation's answers.
+    pub fn can_answer(self, number: u16) -> bool {
+        match self {
+            Operation::Read => matches!(number, 0..=10),
+            Operation::Write => matches!(number, 0 | 3 | 4 | 7..=10 | 12 | 13),
+            Operation::Plan => matches!(number, 0..=12),
+            Operation::Check => matches!(number, 0..=10 | 20..=30),
+            Operation::Run => matches!(number, 0..=10 | 20..=30 | 40..=46),
+        }
+    }
+}
+
+/// What one operation is given.
+#[derive(Clone, Debug)]
+pub enum Case {
+    Read { order: Vec<u8> },
+    Write { processors: u32, columns: [Vec<u32>; 4], room: usize },
+    Plan { order: Vec<u8>, room: usize },
+    Check { order: Vec<u8>, build: Vec<u8> },
+    Run { order: Vec<u8>, build: Vec<u8>, script: Vec<u8>, room: usize },
+}
+
+/// An answer, and the memory around and in the output afterwards.
+#[derive(Clone, Debug, PartialEq, Eq)]
+pub struct Outcome {
+    pub answer: Answer,
+    pub bytes: Vec<u8>,
+    pub words: Vec<u32>,
+}
+
+impl Outcome {
+    /// The first cell, counted from the output's front, in which the memory differs.
+    pub fn first_difference(&self, other: &Outcome) -> Option<isize> {
+        let mut bytes = self.bytes.iter().zip(&other.bytes);
+        let mut words = self.words.iter().zip(&other.words);
+        let cell = bytes.position(|(a, b)| a != b);
+        let cell = cell.or_else(|| words.position(|(a, b)| a != b))?;
+        Some(cell as isize - MARGIN as isize)
+    }
+}
+
+/// Cells before and after the output that no program may touch.
+const MARGIN: usize = 32;
+
+impl Case {
+    pub fn operation(&self) -> Operation {
+        match self {
+            Case::Read { .. } => Operation::Read,
+            Case::Write { .. } => Operation::Write,
+            Case::Plan { .. } => Operation::Plan,
+            Case::Check { .. } => Operation::Check,
+            Case::Run { .. } => Operation::Run,
+        }
+    }
+
+    /// What a program makes of the case.
+    pub fn outcome(&self, program: &impl Program) -> Outcome {
+        let (mut bytes, mut words) = (Vec::new(), Vec::new());
+        let answer = match self {
+            Case::Read { order } => {
+                words = sentinels(Order::NUMBERS, |word| word as u32);
+                let (numbers, _) = words[MARGIN..].split_first_chunk_mut().unwrap();
+                program.read_order(order, numbers)
+            }
+            Case::Write { processors, columns, room } => {
+                bytes = sentinels(*room, |word| word as u8);
+                let columns = columns.each_ref().map(|column| &column[..]);
+                program.write_order(*processors, columns, inside(&mut bytes))
+            }
+            Case::Plan { order, room } => {
+                bytes = sentinels(*room, |word| word as u8);
+                program.plan(order, inside(&mut bytes))
+            }
+            Case::Check { order, build } => program.check(order, build),
+            Case::Run { order, build, script, room } => {
+                words = sentinels(*room, |word| word as u32);
+                program.run(order, build, script, inside(&mut words))
+            }
+        };
+        Outcome { answer, bytes, words }
+    }
+
+    /// The case and its outcome as a line of text, as the README says.
+    pub fn line(&self, outcome: &Outcome) -> String {
+        let given = match self {
+            Case::Read { order } => hex(order),
+            Case::Write { processors, columns, room } => {
+                let [m, t, d, c] = columns.each_ref().map(|column| hex_words(column));
+                format!("{processors} {m} {t} {d} {c} {room}")
+            }
+            Case::Plan { order, room } => format!("{} {room}", hex(order)),
+            Case::Check { order, build } => format!("{} {}", hex(order), hex(build)),
+            Case::Run { order, build, script, room } => {
+                format!("{} {} {} {room}", hex(order), hex(build), hex(script))
+            }
+        };
+        let Answer { number, place, count } = outcome.answer;
+        let written = match self {
+            Case::Read { .. } if number == 0 => hex_words(&front(&outcome.words, Order::NUMBERS)),
+            Case::Write { .. } | Case::Plan { .. } => hex(&front(&outcome.bytes, count as usize)),
+            Case::Run { .. } => hex_words(&front(&outcome.words, count as usize)),
+            _ => hex(&[]),
+        };
+        let name = self.operation().name();
+        format!("{name} {given} {number} {place} {count} {written}")
+    }
+}
+
+/// Memory with a margin on either side, none of it plain.
+fn sentinels<T>(room: usize, cell: fn(u64) -> T) -> Vec<T> {
+    let mut random = Random::new(room as u64);
+    let cells = 0..room + 2 * MARGIN;
+    cells.map(|_| cell(random.word())).collect()
+}
+
+/// The part that a program is given.
+fn inside<T>(memory: &mut [T]) -> &mut [T] {
+    let end = memory.len() - MARGIN;
+    &mut memory[MARGIN..end]
+}
+
+/// The front of the part that a program was given.
+fn front<T: Clone>(memory: &[T], count: usize) -> Vec<T> {
+    memory.iter().skip(MARGIN).take(count).cloned().collect()
+}
+
+/// Two digits a byte; `-` for none.
+fn hex(bytes: &[u8]) -> String {
+    match bytes {
+        [] => "-".into(),
+        _ => bytes.iter().map(|byte| format!("{byte:02X}")).collect(),
+    }
+}
+
+/// Eight digits a word; `-` for none.
+fn hex_words(words: &[u32]) -> String {
+    let bytes = words.iter().flat_map(|word| word.to_be_bytes());
+    hex(&bytes.collect::<Vec<u8>>())
+}

@@ -1,0 +1,142 @@
+//! Random builds: drawn by hand rather than by first fit.
+
+use super::damage::Section;
+use super::random::Random;
+use crate::build::{Build, Partition, Seat};
+use crate::order::{Order, Task};
+use crate::response::Roster;
+
+/// A build with sound ranks, and sound responses where the members pass.
+///
+/// Partitions lie in any order on the processors, some of them empty or wider than needed.
+pub fn by_hand(random: &mut Random, order: &Order) -> Build {
+    let mut rosters = if random.one_in(4) { blind(random, order) } else { sensible(random, order) };
+    while width(&rosters) > order.processors && rosters.len() > 1 {
+        merge_last(order, &mut rosters);
+    }
+    add_empty(random, order, &mut rosters);
+    let partitions = lay_out(random, order, &rosters);
+    Build { processors: order.processors, partitions, seats: seats(random, order, &rosters) }
+}
+
+/// The fields of a build on the wire.
+pub fn sections(build: &Build) -> Vec<Section> {
+    vec![
+        Section::new(&Build::HEADER.0, 1),
+        Section::new(&Build::PARTITION.0, build.partitions.len()),
+        Section::new(&Build::SEAT.0, build.seats.len()),
+    ]
+}
+
+/// Tasks in random order, each where it and the members pass, or in a new partition.
+fn sensible(random: &mut Random, order: &Order) -> Vec<Roster> {
+    let mut numbers: Vec<usize> = (0..order.tasks.len()).collect();
+    random.shuffle(&mut numbers);
+    let mut rosters: Vec<Roster> = Vec::new();
+    for i in numbers {
+        random.shuffle(&mut rosters);
+        let mut takers = rosters.iter_mut().filter_map(|roster| {
+            let joined = roster.with(i, order.tasks[i]);
+            passes(&joined).then_some((roster, joined))
+        });
+        if let Some((roster, joined)) = takers.next() {
+            *roster = joined;
+        } else {
+            drop(takers);
+            rosters.push(Roster::default().with(i, order.tasks[i]));
+        }
+    }
+    rosters
+}
+
+/// Whether all members pass.
+fn passes(roster: &Roster) -> bool {
+    !overfull(&roster.tasks) && roster.responses(&mut ()).is_ok()
+}
+
+/// Whether tasks ask for more than all ticks, so that searching for a window is idle.
+fn overfull(tasks: &[Task]) -> bool {
+    let shares = tasks.iter().map(|task| f64::from(task.c) / f64::from(task.t));
+    shares.sum::<f64>() > 1.000_001
+}
+
+/// Any task in any of a few partitions.
+fn blind(random: &mut Random, order: &Order) -> Vec<Roster> {
+    let p = random.spread(1, order.tasks.len() as u32);
+    let mut rosters = vec![Roster::default(); p as usize];
+    for (i, &task) in order.tasks.iter().enumerate() {
+        rosters[random.below(p) as usize].add(i, task);
+    }
+    rosters
+}
+
+/// The width that a partition needs.
+fn volume(roster: &Roster) -> u32 {
+    roster.tasks.iter().map(|task| task.m).max().unwrap_or(1)
+}
+
+/// The width that all need together.
+fn width(rosters: &[Roster]) -> u32 {
+    rosters.iter().map(volume).sum()
+}
+
+/// Moves the members of the last partition to the first.
+fn merge_last(order: &Order, rosters: &mut Vec<Roster>) {
+    let last = rosters.pop().unwrap_or_default();
+    for i in last.numbers {
+        rosters[0].add(i, order.tasks[i]);
+    }
+}
+
+/// Adds some or many partitions without members, as far as processors are left.
+fn add_empty(random: &mut Random, order: &Order, rosters: &mut Vec<Roster>) {
+    let more = match random.below(8) {
+        0 => 32,
+        1 | 2 => random.spread(1, 32),
+        _ => 0,
+    };
+    for _ in 0..more {
+        if rosters.len() < 32 && width(rosters) < order.processors {
+            let at = random.below(rosters.len() as u32 + 1);
+            rosters.insert(at as usize, Roster::default());
+        }
+    }
+}
+
+/// Places for the partitions, apart and in any order, the processors left over shared out.
+fn lay_out(random: &mut Random, order: &Order, rosters: &[Roster]) -> Vec<Partition> {
+    let mut left = order.processors.saturating_sub(width(rosters));
+    let mut partitions: Vec<Partition> =
+        rosters.iter().map(|roster| Partition { volume: volume(roster), first: 0 }).collect();
+    let mut turns: Vec<usize> = (0..partitions.len()).collect();
+    random.shuffle(&mut turns);
+    let mut first = 0;
+    for j in turns {
+        let gap = random.spread(0, left);
+        let slack = random.spread(0, left - gap);
+        left -= gap + slack;
+        partitions[j].first = first + gap;
+        partitions[j].volume += slack;
+        first = partitions[j].end();
+    }
+    partitions
+}
+
+/// The tasks' seats; a member that does not pass gets some response.
+fn seats(random: &mut Random, order: &Order, rosters: &[Roster]) -> Vec<Seat> {
+    let mut seats = vec![Seat::default(); order.tasks.len()];
+    for (partition, roster) in rosters.iter().enumerate() {
+        for (rank, &i) in roster.numbers.iter().enumerate() {
+            let response = match overfull(&roster.tasks[..=rank]) {
+                true => None,
+                false => roster.response(rank, &mut ()).ok(),
+            };
+            seats[i] = Seat {
+                partition: partition as u32,
+                rank: rank as u32,
+                response: response.unwrap_or(random.between(1, order.tasks[i].d)),
+            };
+        }
+    }
+    seats
+}

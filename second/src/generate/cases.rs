@@ -1,0 +1,144 @@
+//! Random cases.
+
+use super::random::Random;
+use super::{builds, damage, orders, scripts, Scale};
+use crate::case::{Case, Operation};
+use crate::fit::first_fit;
+use crate::order::{Order, Task};
+use crate::script;
+
+/// The case of this index among those of a seed; the operations take turns.
+pub fn nth(seed: u64, index: u64, operations: &[Operation], scale: &Scale) -> Case {
+    let operation = operations[(index % operations.len() as u64) as usize];
+    draw(&mut Random::nth(seed, index), operation, scale)
+}
+
+/// A random case of an operation.
+fn draw(random: &mut Random, operation: Operation, scale: &Scale) -> Case {
+    match operation {
+        Operation::Read => read(random, scale),
+        Operation::Write => write(random, scale),
+        Operation::Plan => plan(random, scale),
+        Operation::Check => check(random, scale),
+        Operation::Run => run(random, scale),
+    }
+}
+
+/// An order that first fit accepts, if one of a few does.
+fn acceptable(random: &mut Random, scale: &Scale) -> Order {
+    let accepted = |order: &Order| first_fit(order, &mut ()).is_ok();
+    let soon = (0..3).map(|_| orders::order(random, scale)).find(accepted);
+    soon.unwrap_or_else(|| orders::order(random, scale))
+}
+
+/// An order's bytes, damaged once in so many times.
+fn order_bytes(random: &mut Random, order: &Order, damaged: u32) -> Vec<u8> {
+    let mut bytes = order.bytes();
+    if random.one_in(damaged) {
+        damage::damage(random, &mut bytes, &orders::sections(order));
+    }
+    bytes
+}
+
+/// A build's bytes, by first fit or by hand, damaged once in so many times.
+fn build_bytes(random: &mut Random, order: &Order, damaged: u32) -> Vec<u8> {
+    let planned = random.one_in(2).then(|| first_fit(order, &mut ()));
+    let build = match planned {
+        Some(Ok(build)) => build,
+        _ => builds::by_hand(random, order),
+    };
+    let mut bytes = build.bytes();
+    if random.one_in(damaged) {
+        damage::damage(random, &mut bytes, &builds::sections(&build));
+    }
+    bytes
+}
+
+/// Room that is mostly enough, often just so or just short.
+fn room(random: &mut Random, needed: usize) -> usize {
+    match random.below(8) {
+        0 => needed.saturating_sub(1),
+        1 => random.below(needed as u32 + 1) as usize,
+        2 | 3 => needed + random.spread(1, 200) as usize,
+        _ => needed,
+    }
+}
+
+/// An order to read, damaged or not.
+fn read(random: &mut Random, scale: &Scale) -> Case {
+    let order = orders::order(random, scale);
+    Case::Read { order: order_bytes(random, &order, 2) }
+}
+
+/// An order in columns, spoilt or not.
+fn write(random: &mut Random, scale: &Scale) -> Case {
+    let order = orders::order(random, scale);
+    let column = |field: fn(&Task) -> u32| order.tasks.iter().map(field).collect();
+    let mut processors = order.processors;
+    let mut columns = [
+        column(|task| task.m),
+        column(|task| task.t),
+        column(|task| task.d),
+        column(|task| task.c),
+    ];
+    if random.one_in(2) {
+        spoil(random, &mut processors, &mut columns);
+    }
+    Case::Write { processors, columns, room: room(random, order.bytes().len()) }
+}
+
+/// Spoils M, n, the length of a column or one number in it.
+fn spoil(random: &mut Random, processors: &mut u32, columns: &mut [Vec<u32>; 4]) {
+    let chosen = random.below(4) as usize;
+    match random.below(8) {
+        0 => *processors = random.pick(&[0, 65, 64, 128 + *processors, u32::MAX]),
+        1 => {
+            let n = random.pick(&[0, 32, 33, 64]);
+            columns.iter_mut().for_each(|column| column.resize(n, 1));
+        }
+        2 => {
+            let longest = columns[chosen].len() as u32 + 1;
+            columns[chosen].resize(random.between(0, longest) as usize, 1);
+        }
+        _ => {
+            let row = random.below(columns[chosen].len() as u32) as usize;
+            let number = &mut columns[chosen][row];
+            let (more, less) = (*number + 1, *number - 1);
+            *number = random.pick(&[0, more, less, 1_000_001, 1 << 20, u32::MAX]);
+        }
+    }
+}
+
+/// An order to plan, and room around what its build takes.
+fn plan(random: &mut Random, scale: &Scale) -> Case {
+    let order = orders::order(random, scale);
+    let needed = first_fit(&order, &mut ()).map_or(195, |build| build.bytes().len());
+    Case::Plan { order: order_bytes(random, &order, 6), room: room(random, needed) }
+}
+
+/// An order and a build, damaged or not.
+fn check(random: &mut Random, scale: &Scale) -> Case {
+    let order = orders::order(random, scale);
+    let build = build_bytes(random, &order, 2);
+    Case::Check { order: order_bytes(random, &order, 16), build }
+}
+
+/// An order, a build that is mostly sound, and a script, legal or not.
+fn run(random: &mut Random, scale: &Scale) -> Case {
+    let order = acceptable(random, scale);
+    let build = build_bytes(random, &order, 32);
+    let mut records = scripts::legal(random, &order, scale);
+    if random.one_in(4) {
+        scripts::misdraw(random, &mut records);
+    }
+    let mut bytes = script::bytes(&records);
+    if random.one_in(4) {
+        damage::damage(random, &mut bytes, &scripts::sections(&records));
+    }
+    Case::Run {
+        order: order_bytes(random, &order, 64),
+        build,
+        room: room(random, bytes.len() / 6),
+        script: bytes,
+    }
+}

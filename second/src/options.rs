@@ -1,0 +1,46 @@
+//! The programs' options: `--cases N`, `--seed S`, `--each K`, `--only read,write,..`.
+
+use crate::case::Operation;
+
+/// What to draw.
+pub struct Options {
+    pub cases: u64,
+    pub seed: u64,
+    pub each: u32,
+    pub only: Option<Vec<Operation>>,
+}
+
+impl Options {
+    /// The options given, or else a hint on the standard error and exit code 2.
+    pub fn from_arguments() -> Options {
+        Options::parse(std::env::args().skip(1)).unwrap_or_else(|| {
+            eprintln!("options: --cases N  --seed S  --each K  --only read,write,plan,check,run");
+            std::process::exit(2)
+        })
+    }
+
+    /// The operations to draw: those asked for, or all.
+    pub fn operations(&self) -> Vec<Operation> {
+        self.only.clone().unwrap_or(Operation::ALL.to_vec())
+    }
+
+    fn parse(mut arguments: impl Iterator<Item = String>) -> Option<Options> {
+        let mut options = Options { cases: 200_000, seed: 1, each: 4, only: None };
+        while let Some(name) = arguments.next() {
+            let value = arguments.next()?;
+            match name.as_str() {
+                "--cases" => options.cases = value.parse().ok()?,
+                "--seed" => options.seed = value.parse().ok()?,
+                "--each" => options.each = value.parse().ok()?,
+                "--only" => options.only = Some(operations(&value)?),
+                _ => return None,
+            }
+        }
+        Some(options)
+    }
+}
+
+fn operations(names: &str) -> Option<Vec<Operation>> {
+    let named = |name| Operation::ALL.into_iter().find(|op| op.name() == name);
+    names.split(',').map(named).collect()
+}
