@@ -1,28 +1,26 @@
 -- The verdict over any work that grows: from the searches' answers, and job by job.
 use mathlib.Core.Path.{_≡_, refl, sym, ap, _∙_, subst}
-use mathlib.Core.Bool.{Bool, true, false}
+use mathlib.Core.Bool.{false}
 use mathlib.Core.Logic.{_↔_}
-use Prim.Native.Nat.{ℕ, zero, suc, _+_, _-_, _*_, _≤_, _<_, max}
-use native.Mathlib.Nat.{zero-mul, one-mul, add-mul, suc-mul, mul-le-mul-left, le-antisymm}
+use Prim.Native.Nat.{ℕ, _+_, _-_, _*_, _≤_, _<_, max}
+use native.Mathlib.Nat.{zero-mul, one-mul, add-mul, le-antisymm}
 use native.Mathlib.Decide.{decLe}
-use native.Mathlib.Numerals.{add-one}
 use native.Mathlib.Omega.{arith}
 use lib.Dec.{leb}
 use borrow.Author.Tests.{leb-true, leb-false}
 use Rattle.model.specs.Limits.{horizon}
-use Rattle.search.specs.Smallest.{smallest, IsSmallest, Answers}
+use Rattle.search.specs.Smallest.{IsSmallest, Answers}
 use Rattle.search.specs.declared.Found.{Found}
 use Rattle.search.specs.declared.Found.the-variants.{At, Nothing}
 use Rattle.search.proofs.Smallest.{smallest-is}
-use Rattle.demand.specs.declared.Verdict.{Verdict}
-use Rattle.demand.specs.declared.Verdict.the-variants.{Passes, NoWindow, NoStart, Late}
+use Rattle.demand.specs.declared.Verdict.the-variants.{Passes, NoWindow, Late}
 use Rattle.demand.specs.Releases.{jobs}
-use Rattle.demand.specs.Test.{firstMet, largestFound, judged, verdictIn, doesPass}
-use Rattle.demand.specs.Meaning.{FirstMetAt, NeverMet}
+use Rattle.demand.specs.Test.{firstMet, largestFound, judged, doesPass}
+use Rattle.demand.specs.Meaning.{FirstMetAt}
 use Rattle.demand.specs.Packed.{startOver, windowOver, responseOver, verdictOver, startWithin, Ranges}
 use Rattle.demand.proofs.Releases.{jobs-are}
 use Rattle.demand.proofs.FirstMet.{met-at, met-never, met-says, met-one}
-use Rattle.demand.proofs.Largest.{at-one, largest-found-none, largest-found-more, judged-late, judged-passes}
+use Rattle.demand.proofs.Largest.{largest-found-none, largest-found-more, judged-late, judged-passes}
 use Rattle.demand.proofs.Over.{Grows, start-next, window-after, window-none, Job, job}
 
 clash : {A : Type 0} → _≡_ {A = ℕ} 0 1 → A

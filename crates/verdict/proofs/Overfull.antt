@@ -1,7 +1,7 @@
 -- Shares above the whole leave no window.
-use mathlib.Core.Path.{_≡_, refl, sym, ap, _∙_, subst}
+use mathlib.Core.Path.{_≡_, sym, ap, _∙_, subst}
 use mathlib.Core.List.{List}
-use Prim.Native.Nat.{ℕ, zero, suc, _+_, _-_, _*_, _/_, _≤_, _<_}
+use Prim.Native.Nat.{ℕ, suc, _+_, _-_, _*_, _/_, _≤_, _<_}
 use native.Mathlib.Nat.{mul-le-mul, mul-le-mul-left, mul-le-mul-right, le-refl, mul-comm, mul-assoc, mul-add, lt-div-mul-add, div-mul-le-self, add-mul, one-mul, div-le-self}
 use native.Mathlib.Omega.{arith}
 use lib.ListN.{getD}
@@ -11,7 +11,6 @@ use Rattle.laws.proofs.Picked.{sum-most, sum-scale}
 use Rattle.search.specs.declared.Found.the-variants.{Nothing}
 use Rattle.demand.specs.Releases.{releasesBy}
 use Rattle.demand.specs.Test.{firstMet}
-use Rattle.demand.specs.Meaning.{NeverMet}
 use Rattle.demand.specs.Packed.{Fits, packedWork, windowOver}
 use Rattle.demand.proofs.FirstMet.{met-never}
 use Rattle.verdict.specs.Shares.{whole, shareOf, packedShares}

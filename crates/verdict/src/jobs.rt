@@ -60,11 +60,13 @@ pub fn judge(
     if shares::overfull(periods, costs, count, blocking, period, cost) {
         return Verdict::NoWindow;
     }
-    let Found::At(first) = starts::start_from(periods, costs, count, blocking, 0, Task::HORIZON) else {
+    let Found::At(first) = starts::start_from(periods, costs, count, blocking, 0, Task::HORIZON)
+    else {
         return Verdict::NoWindow;
     };
     let end = first + cost;
-    let Found::At(length) = windows::window_from(periods, costs, count, blocking, period, cost, end) else {
+    let Found::At(length) = windows::window_from(periods, costs, count, blocking, period, cost, end)
+    else {
         return Verdict::NoWindow;
     };
     if deadline < end {
@@ -115,7 +117,8 @@ pub fn in_time(
         return false;
     }
     let end = first + cost;
-    let Found::At(length) = windows::window_from(periods, costs, count, blocking, period, cost, end) else {
+    let Found::At(length) = windows::window_from(periods, costs, count, blocking, period, cost, end)
+    else {
         return false;
     };
     is_passing(later_jobs(

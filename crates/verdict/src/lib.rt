@@ -30,15 +30,7 @@ pub fn verdict(
     let period = demand::wide(mine.period);
     let cost = demand::cost_of(mine);
     let deadline = demand::wide(mine.deadline);
-    jobs::judge(
-        &periods,
-        &costs,
-        count,
-        blocking,
-        period,
-        cost,
-        deadline,
-    )
+    jobs::judge(&periods, &costs, count, blocking, period, cost, deadline)
 }
 
 // Whether it passes, which is often known sooner.
@@ -60,13 +52,5 @@ pub fn passes(
     let period = demand::wide(mine.period);
     let cost = demand::cost_of(mine);
     let deadline = demand::wide(mine.deadline);
-    jobs::in_time(
-        &periods,
-        &costs,
-        count,
-        blocking,
-        period,
-        cost,
-        deadline,
-    )
+    jobs::in_time(&periods, &costs, count, blocking, period, cost, deadline)
 }

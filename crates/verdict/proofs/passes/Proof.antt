@@ -1,49 +1,63 @@
+use Rattle.demand.specs.Test.{doesPass}
+use native.Mathlib.Omega.{arith}
+use mathlib.Core.Path.{_∙_, ap}
+use Rattle.demand.proofs.Packed.{ranges, packs-fit, packed-verdict}
 use borrow.Author.Needs.{needs}
 use Rattle.verdict.proofs.passes.Statement.{statement}
 use Rattle.verdict.proofs.passes.Tie as tie
-use Rattle.verdict.proofs.passes.Reads as reads
-use Rattle.verdict.proofs.passes.Lts as lts
-use Rattle.demand.proofs.blocking.Reads as blocking-reads
-use Rattle.demand.proofs.cost_of.Reads as cost-of-reads
-use Rattle.demand.proofs.pack_higher.Reads as pack-higher-reads
-use Rattle.demand.proofs.wide.Reads as wide-reads
-use Rattle.verdict.proofs.jobs.in_time.Reads as in-time-reads
 
--- src/lib.rt:54:9
 blocking-requires : tie.Need-blocking-requires
 blocking-requires c κs = search needs
 
--- src/lib.rt:55:9
 pack-higher-requires : tie.Need-pack-higher-requires
 pack-higher-requires c κs = search needs
 
--- src/lib.rt:59:16
 mul-mine : tie.Need-mul-mine
 mul-mine c = search needs
 
--- src/lib.rt:59:16
 array-copy-out-mine : tie.Need-array-copy-out-mine
 array-copy-out-mine c = search needs
 
--- src/lib.rt:60:9
 wide-requires : tie.Need-wide-requires
 wide-requires c κs = search needs
 
--- src/lib.rt:61:9
 cost-of-requires : tie.Need-cost-of-requires
-cost-of-requires c κs = search needs
+cost-of-requires c κs = let s = c .before .before .before .before .before .before in s .pre .0 .each _ (s .pre .1)
 
--- src/lib.rt:62:9
 wide-requires-2 : tie.Need-wide-requires-2
 wide-requires-2 c κs = search needs
 
--- src/lib.rt:63:5
 in-time-requires : tie.Need-in-time-requires
-in-time-requires c κs = search needs
+in-time-requires c κs = let s = c .before .before .before .before .before .before .before .before .before .before in
+    let a = s .args in
+    let h = c .before .before .before .before .before .before .before .before .pack-higher in
+    let g = ranges (a .t1) (a .partitions) (a .tasks) (a .task) (s .pre .0) (s .pre .1) in
+    let b = c .before .before .before .before .before .before .before .before .before .blocking .ensures in
+    let t = c .before .before .before .before .wide .ensures in
+    let k = c .before .before .before .cost-of .ensures in
+    let d = c .before .before .wide2 .ensures in (
+      packs-fit (a .t1) (a .partitions) (a .tasks) (a .task) (s .pre .0) (s .pre .1) (h .result .periods) (h .result .costs) (h .result .count) (h .ensures),
+      record {
+        blocking-most = omega (arith, g .blocking-most);
+        cost-least = omega (arith, g .cost-least);
+        cost-most = omega (arith, g .cost-most);
+        deadline-most = omega (arith, g .deadline-most);
+        period-most = omega (arith, g .period-most);
+      },
+    )
 
--- src/lib.rt:45:1
 returns : tie.Need-returns
-returns c = search needs
+returns c = let s = c .before .before .before .before .before .before .before .before .before .before .before in
+    let a = s .args in
+    let h = c .before .before .before .before .before .before .before .before .before .pack-higher in
+    let b = c .before .before .before .before .before .before .before .before .before .before .blocking in
+    let t = c .before .before .before .before .before .wide in
+    let k = c .before .before .before .before .cost-of in
+    let d = c .before .before .before .wide2 in
+    c .in-time .ensures
+    ∙ ap doesPass
+    (packed-verdict (a .t1) (a .partitions) (a .tasks) (a .task) (s .pre .0) (s .pre .1) (h .result .periods) (h .result .costs) (h .result .count) (h .ensures)
+    (b .result) (t .result) (k .result) (d .result) (b .ensures) (t .ensures) (k .ensures) (d .ensures))
 
 pub passes-spec : {M : Type 1} → statement M
 passes-spec =

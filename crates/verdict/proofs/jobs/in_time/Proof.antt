@@ -1,49 +1,36 @@
 use native.Mathlib.Omega.{arith}
-use mathlib.Core.Path.{_≡_, refl, sym, _∙_, ap, subst}
-use Prim.Native.Nat.{ℕ, _≤_, _<_, _-_, _+_, _*_, _/_}
-use Rattle.model.specs.Limits.{horizon}
-use Rattle.search.specs.declared.Found.the-variants.{At, Nothing}
-use Rattle.demand.specs.Test.{firstMet, doesPass}
-use Rattle.demand.specs.Packed.{packedWork, windowOver, startWithin}
+use mathlib.Core.Path.{_≡_, sym, _∙_, ap}
+use Prim.Native.Nat.{_≤_, _-_}
+use Rattle.search.specs.declared.Found.the-variants.{At}
+use Rattle.demand.specs.Test.{doesPass}
+use Rattle.demand.specs.Packed.{packedWork, startWithin}
 use Rattle.demand.proofs.Packed.{packed-grows}
 use Rattle.demand.proofs.Over.{Grows}
-use Rattle.verdict.proofs.Judged.{within-at, within-start, period-least, over-none, first-none, after-first, late-first, not-in-time}
+use Rattle.verdict.proofs.Judged.{within-at, within-start, period-least, over-none, after-first, not-in-time}
 use borrow.Author.Needs.{needs}
 use Rattle.verdict.proofs.jobs.in_time.Statement.{statement}
 use Rattle.verdict.proofs.jobs.in_time.Tie as tie
-use Rattle.verdict.proofs.jobs.in_time.Reads as reads
-use Rattle.verdict.proofs.jobs.in_time.Lts as lts
-use Rattle.verdict.proofs.jobs.is_passing.Reads as is-passing-reads
-use Rattle.verdict.proofs.jobs.later_jobs.Reads as later-jobs-reads
-use Rattle.verdict.proofs.shares.overfull.Reads as overfull-reads
-use Rattle.verdict.proofs.starts.start_from.Reads as start-from-reads
-use Rattle.verdict.proofs.windows.window_from.Reads as window-from-reads
 
 grows : (s : tie.Start) → let a = s .args in Grows (packedWork (a .periods .now) (a .costs .now) (a .count))
 grows s = let a = s .args in packed-grows (a .periods .now) (a .costs .now) (a .count) (s .pre .0 .period-least)
 
--- src/jobs.rt:110:17
 sub-limit : tie.Need-sub-limit
 sub-limit c = omega (arith, c .pre .1 .cost-most)
 
--- src/jobs.rt:111:28
 start-from-requires : tie.Need-start-from-requires
-start-from-requires c κs =     let s = c in
+start-from-requires c κs = let s = c in
     let a = s .args in
     let r = s .pre .1 in
     (s .pre .0, omega (arith, r .blocking-most), omega (arith, r .deadline-most, r .period-most), λ x l. absurd (omega arith))
 
--- src/jobs.rt:111:19
 enum-known-first : tie.Need-enum-known-first
 enum-known-first c = search needs
 
--- src/jobs.rt:112:9
 enum-told : tie.Need-enum-told
 enum-told c = search needs
 
--- src/jobs.rt:112:9
 returns : tie.Need-returns
-returns c =     let s = c .before .before .before in
+returns c = let s = c .before .before .before in
     let a = s .args in
     let r = s .pre .1 in
     sym (not-in-time (packedWork (a .periods .now) (a .costs .now) (a .count)) (grows s) (a .blocking) (a .period) (a .cost) (a .deadline) r (sym (c .before .before .start-from .ensures) ∙ c .enum-told .given .1))
@@ -56,33 +43,28 @@ began c = sym (c .before .before .before .start-from .ensures) ∙ c .before .fi
 due : (c : tie.After-known-told) → let a = c .before .before .before .before .args in c .before .first .given .0 .0 ≤ a .deadline - a .cost
 due c = let a = c .before .before .before .before .args in within-at (packedWork (a .periods .now) (a .costs .now) (a .count)) (a .blocking) (a .deadline - a .cost) (c .before .first .given .0 .0) (began c) .upto
 
--- src/jobs.rt:114:8
 overfull-requires : tie.Need-overfull-requires
-overfull-requires c κs =     let s = c .before .before .before .before in
+overfull-requires c κs = let s = c .before .before .before .before in
     let a = s .args in
     let r = s .pre .1 in
     (s .pre .0, period-least (packedWork (a .periods .now) (a .costs .now) (a .count)) (grows s) (a .blocking) (a .period) (a .cost) (a .deadline) r, omega (arith, r .cost-most, r .deadline-most, r .period-most))
 
--- src/jobs.rt:115:9
 returns-2 : tie.Need-returns-2
-returns-2 c =     let s = c .before .before .before .before .before .before in
+returns-2 c = let s = c .before .before .before .before .before .before in
     let a = s .args in
     let r = s .pre .1 in
     sym (ap doesPass (over-none (packedWork (a .periods .now) (a .costs .now) (a .count)) (grows s) (a .blocking) (a .period) (a .cost) (a .deadline) r (c .before .overfull .ensures (c .if1 .taken))))
 
--- src/jobs.rt:117:15
 add-end : tie.Need-add-end
-add-end c =     let s = c .before .before .before .before .before .before in
+add-end c = let s = c .before .before .before .before .before .before in
     let a = s .args in
     let r = s .pre .1 in
     omega (arith, due (c .before .before), r .cost-most, r .deadline-most, r .period-most)
 
--- src/jobs.rt:118:29
 window-from-requires : tie.Need-window-from-requires
-window-from-requires c κs =     let s = c .before .before .before .before .before .before in
+window-from-requires c κs = let s = c .before .before .before .before .before .before in
     let a = s .args in
-    let r = s .pre .1 in
-    (
+    let r = s .pre .1 in (
       s .pre .0,
       r .blocking-most,
       period-least (packedWork (a .periods .now) (a .costs .now) (a .count)) (grows s) (a .blocking) (a .period) (a .cost) (a .deadline) r,
@@ -91,28 +73,23 @@ window-from-requires c κs =     let s = c .before .before .before .before .befo
       after-first (packedWork (a .periods .now) (a .costs .now) (a .count)) (grows s) (a .blocking) (a .period) (a .cost) (a .deadline) r (a .deadline - a .cost) (c .before .before .before .first .given .0 .0) (began (c .before .before)),
     )
 
--- src/jobs.rt:118:19
 enum-known-length : tie.Need-enum-known-length
 enum-known-length c = search needs
 
--- src/jobs.rt:119:9
 enum-told-2 : tie.Need-enum-told-2
 enum-told-2 c = search needs
 
--- src/jobs.rt:119:9
 returns-3 : tie.Need-returns-3
-returns-3 c =     let s = c .before .before .before .before .before .before .before .before .before in
+returns-3 c = let s = c .before .before .before .before .before .before .before .before .before in
     let a = s .args in
     let r = s .pre .1 in
     sym (ap doesPass (over-none (packedWork (a .periods .now) (a .costs .now) (a .count)) (grows s) (a .blocking) (a .period) (a .cost) (a .deadline) r (sym (c .before .before .window-from .ensures) ∙ c .enum-told2 .given .1)))
 
--- src/jobs.rt:121:16
 later-jobs-requires : tie.Need-later-jobs-requires
-later-jobs-requires c κs =     let s = c .before .before .before .before .before .before .before .before .before .before in
+later-jobs-requires c κs = let s = c .before .before .before .before .before .before .before .before .before .before in
     let a = s .args in
     let r = s .pre .1 in
-    let d = due (c .before .before .before .before .before .before) in
-    (
+    let d = due (c .before .before .before .before .before .before) in (
       s .pre .0,
       r,
       sym (c .before .before .before .window-from .ensures) ∙ c .before .length .given .1,
@@ -120,11 +97,9 @@ later-jobs-requires c κs =     let s = c .before .before .before .before .befor
       omega (arith, d, r .cost-most),
     )
 
--- src/jobs.rt:121:5
 is-passing-requires : tie.Need-is-passing-requires
 is-passing-requires c κs = search needs
 
--- src/jobs.rt:98:1
 returns-4 : tie.Need-returns-4
 returns-4 c = c .is-passing .ensures ∙ ap doesPass (c .before .later-jobs .ensures)
 

@@ -1,58 +1,45 @@
 use native.Mathlib.Omega.{arith}
-use mathlib.Core.Path.{_≡_, refl, sym, _∙_, ap, subst}
-use Prim.Native.Nat.{ℕ, _≤_, _<_, _-_, _+_, _*_, _/_}
+use mathlib.Core.Path.{_≡_, sym, _∙_}
 use Rattle.model.specs.Limits.{horizon}
-use Rattle.search.specs.declared.Found.the-variants.{At, Nothing}
-use Rattle.demand.specs.Test.{firstMet, doesPass}
+use Rattle.search.specs.declared.Found.the-variants.{At}
+use Rattle.demand.specs.Test.{firstMet}
 use Rattle.demand.specs.Packed.{packedWork, windowOver, startWithin}
 use Rattle.demand.proofs.Packed.{packed-grows}
 use Rattle.demand.proofs.Over.{Grows}
-use Rattle.verdict.proofs.Judged.{within-at, within-start, period-least, over-none, first-none, after-first, late-first, not-in-time}
+use Rattle.verdict.proofs.Judged.{within-at, within-start, period-least, over-none, first-none, after-first, late-first}
 use borrow.Author.Needs.{needs}
 use Rattle.verdict.proofs.jobs.judge.Statement.{statement}
 use Rattle.verdict.proofs.jobs.judge.Tie as tie
-use Rattle.verdict.proofs.jobs.judge.Reads as reads
-use Rattle.verdict.proofs.jobs.judge.Lts as lts
-use Rattle.verdict.proofs.jobs.later_jobs.Reads as later-jobs-reads
-use Rattle.verdict.proofs.shares.overfull.Reads as overfull-reads
-use Rattle.verdict.proofs.starts.start_from.Reads as start-from-reads
-use Rattle.verdict.proofs.windows.window_from.Reads as window-from-reads
 
 grows : (s : tie.Start) → let a = s .args in Grows (packedWork (a .periods .now) (a .costs .now) (a .count))
 grows s = let a = s .args in packed-grows (a .periods .now) (a .costs .now) (a .count) (s .pre .0 .period-least)
 
--- src/jobs.rt:60:8
 overfull-requires : tie.Need-overfull-requires
-overfull-requires c κs =     let s = c in
+overfull-requires c κs = let s = c in
     let a = s .args in
     let r = s .pre .1 in
     (s .pre .0, period-least (packedWork (a .periods .now) (a .costs .now) (a .count)) (grows s) (a .blocking) (a .period) (a .cost) (a .deadline) r, omega (arith, r .cost-most, r .deadline-most, r .period-most))
 
--- src/jobs.rt:61:9
 returns : tie.Need-returns
-returns c =     let s = c .before .before in
+returns c = let s = c .before .before in
     let a = s .args in
     let r = s .pre .1 in
     sym (over-none (packedWork (a .periods .now) (a .costs .now) (a .count)) (grows s) (a .blocking) (a .period) (a .cost) (a .deadline) r (c .before .overfull .ensures (c .if1 .taken)))
 
--- src/jobs.rt:63:28
 start-from-requires : tie.Need-start-from-requires
-start-from-requires c κs =     let s = c .before .before in
+start-from-requires c κs = let s = c .before .before in
     let a = s .args in
     let r = s .pre .1 in
     (s .pre .0, omega (arith, r .blocking-most), omega arith, λ x l. absurd (omega arith))
 
--- src/jobs.rt:63:19
 enum-known-first : tie.Need-enum-known-first
 enum-known-first c = search needs
 
--- src/jobs.rt:64:9
 enum-told : tie.Need-enum-told
 enum-told c = search needs
 
--- src/jobs.rt:64:9
 returns-2 : tie.Need-returns-2
-returns-2 c =     let s = c .before .before .before .before .before in
+returns-2 c = let s = c .before .before .before .before .before in
     let a = s .args in
     let r = s .pre .1 in
     sym (first-none (packedWork (a .periods .now) (a .costs .now) (a .count)) (grows s) (a .blocking) (a .period) (a .cost) (a .deadline) r (sym (c .before .before .start-from .ensures) ∙ c .enum-told .given .1))
@@ -61,19 +48,16 @@ returns-2 c =     let s = c .before .before .before .before .before in
 began : (c : tie.After-known-told) → let a = c .before .before .before .before .before .before .args in startWithin (packedWork (a .periods .now) (a .costs .now) (a .count)) (a .blocking) horizon ≡ At (c .before .first .given .0 .0)
 began c = sym (c .before .before .before .start-from .ensures) ∙ c .before .first .given .1
 
--- src/jobs.rt:66:15
 add-end : tie.Need-add-end
-add-end c =     let s = c .before .before .before .before .before .before in
+add-end c = let s = c .before .before .before .before .before .before in
     let a = s .args in
     let r = s .pre .1 in
     omega (arith, within-at (packedWork (a .periods .now) (a .costs .now) (a .count)) (a .blocking) horizon (c .before .first .given .0 .0) (began c) .upto, r .cost-most, r .deadline-most, r .period-most)
 
--- src/jobs.rt:67:29
 window-from-requires : tie.Need-window-from-requires
-window-from-requires c κs =     let s = c .before .before .before .before .before .before in
+window-from-requires c κs = let s = c .before .before .before .before .before .before in
     let a = s .args in
-    let r = s .pre .1 in
-    (
+    let r = s .pre .1 in (
       s .pre .0,
       r .blocking-most,
       period-least (packedWork (a .periods .now) (a .costs .now) (a .count)) (grows s) (a .blocking) (a .period) (a .cost) (a .deadline) r,
@@ -82,17 +66,14 @@ window-from-requires c κs =     let s = c .before .before .before .before .befo
       after-first (packedWork (a .periods .now) (a .costs .now) (a .count)) (grows s) (a .blocking) (a .period) (a .cost) (a .deadline) r horizon (c .before .first .given .0 .0) (began c),
     )
 
--- src/jobs.rt:67:19
 enum-known-length : tie.Need-enum-known-length
 enum-known-length c = search needs
 
--- src/jobs.rt:68:9
 enum-told-2 : tie.Need-enum-told-2
 enum-told-2 c = search needs
 
--- src/jobs.rt:68:9
 returns-3 : tie.Need-returns-3
-returns-3 c =     let s = c .before .before .before .before .before .before .before .before .before in
+returns-3 c = let s = c .before .before .before .before .before .before .before .before .before in
     let a = s .args in
     let r = s .pre .1 in
     sym (over-none (packedWork (a .periods .now) (a .costs .now) (a .count)) (grows s) (a .blocking) (a .period) (a .cost) (a .deadline) r (sym (c .before .before .window-from .ensures) ∙ c .enum-told2 .given .1))
@@ -104,23 +85,20 @@ closed :
     firstMet (windowOver (packedWork (a .periods .now) (a .costs .now) (a .count)) (a .blocking) (a .period) (a .cost)) 1 ≡ At (c .before .length .given .0 .0)
 closed c = sym (c .before .before .before .window-from .ensures) ∙ c .before .length .given .1
 
--- src/jobs.rt:71:9
 returns-4 : tie.Need-returns-4
-returns-4 c =     let k = c .before in
+returns-4 c = let k = c .before in
     let s = k .before .before .before .before .before .before .before .before .before .before in
     let a = s .args in
     let r = s .pre .1 in
     sym (late-first (packedWork (a .periods .now) (a .costs .now) (a .count)) (grows s) (a .blocking) (a .period) (a .cost) (a .deadline) r (k .before .length .given .0 .0) (closed k) (k .before .before .before .before .before .first .given .0 .0) (within-start (packedWork (a .periods .now) (a .costs .now) (a .count)) (a .blocking) horizon (k .before .before .before .before .before .first .given .0 .0) (omega arith) (began (k .before .before .before .before))) (c .if2 .taken))
 
--- src/jobs.rt:73:5
 later-jobs-requires : tie.Need-later-jobs-requires
-later-jobs-requires c κs =     let k = c .before in
+later-jobs-requires c κs = let k = c .before in
     let s = k .before .before .before .before .before .before .before .before .before .before in
     let a = s .args in
     let r = s .pre .1 in
     (s .pre .0, r, closed k, (within-start (packedWork (a .periods .now) (a .costs .now) (a .count)) (a .blocking) horizon (k .before .before .before .before .before .first .given .0 .0) (omega arith) (began (k .before .before .before .before))), c .if2 .left)
 
--- src/jobs.rt:48:1
 returns-5 : tie.Need-returns-5
 returns-5 c = search needs
 

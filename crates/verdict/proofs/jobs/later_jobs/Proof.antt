@@ -1,18 +1,14 @@
 use native.Mathlib.Omega.{arith}
-use mathlib.Core.Path.{_≡_, refl, sym, _∙_, ap, subst}
-use Prim.Native.Nat.{ℕ, _≤_, _<_, _-_, _+_, _*_, _/_}
+use mathlib.Core.Path.{sym, _∙_}
+use Prim.Native.Nat.{_≤_, _-_, _+_, _*_}
 use native.Mathlib.Nat.{mul-le-mul-left, mul-one}
-use Rattle.demand.specs.Packed.{packedWork, startOver}
+use Rattle.demand.specs.Packed.{packedWork}
 use Rattle.demand.proofs.Packed.{packed-grows}
 use Rattle.demand.proofs.Over.{Grows}
 use Rattle.verdict.proofs.Judged.{Jobs, Seen, seen, jobs-first, jobs-next, jobs-end, late-job, within-none, window-is, period-least}
 use borrow.Author.Needs.{needs}
 use Rattle.verdict.proofs.jobs.later_jobs.Statement.{statement}
 use Rattle.verdict.proofs.jobs.later_jobs.Tie as tie
-use Rattle.verdict.proofs.jobs.later_jobs.Reads as reads
-use Rattle.verdict.proofs.jobs.later_jobs.Lts as lts
-use Rattle.demand.proofs.larger.Reads as larger-reads
-use Rattle.verdict.proofs.starts.start_from.Reads as start-from-reads
 
 abbrev Inv-loop : tie.InvT-loop
 Inv-loop periods costs count blocking period cost deadline length first most₀ from₀ job₀ most from job = Jobs (packedWork periods costs count) blocking period cost deadline length most from job
@@ -31,60 +27,47 @@ near s = let a = s .args in window-is (packedWork (a .periods .now) (a .costs .n
 less : (c : tie.In-loop Inv-loop μ-loop) → let a = c .before .before .args in c .before .loop .job * a .cost ≤ c .before .loop .job * a .period
 less c = (let r = c .before .before .pre .1 in mul-le-mul-left (c .before .loop .job) (omega (arith, r .cost-most, r .deadline-most)))
 
--- src/jobs.rt:30:25
 add-most : tie.Need-add-most Inv-loop μ-loop
 add-most c = search needs
 
--- src/jobs.rt:31:25
 add-from : tie.Need-add-from Inv-loop μ-loop
 add-from c = search needs
 
--- src/jobs.rt:33:5
 loop-holds : tie.Need-loop-holds Inv-loop μ-loop
-loop-holds c =     let a = c .args in
+loop-holds c = let a = c .args in
     jobs-first (packedWork (a .periods .now) (a .costs .now) (a .count)) (grows c) (a .blocking) (a .period) (a .cost) (a .deadline) (c .pre .1) (a .length) (c .pre .2) (a .first) (c .pre .3) (c .pre .4)
 
--- src/jobs.rt:33:11
 mul-loop : tie.Need-mul-loop Inv-loop μ-loop
 mul-loop c = omega (arith, c .loop .inv .near, near (c .before), c .before .pre .1 .period-most)
 
--- src/jobs.rt:34:23
 mul-release : tie.Need-mul-release Inv-loop μ-loop
 mul-release c = search needs
 
--- src/jobs.rt:35:31
 mul-base : tie.Need-mul-base Inv-loop μ-loop
 mul-base c = omega (arith, less c, near (c .before .before))
 
--- src/jobs.rt:35:20
 add-base : tie.Need-add-base Inv-loop μ-loop
 add-base c = omega (arith, less c, near (c .before .before), c .before .before .pre .1 .blocking-most)
 
--- src/jobs.rt:36:21
 add-limit : tie.Need-add-limit Inv-loop μ-loop
 add-limit c = let r = c .before .before .pre .1 in omega (arith, near (c .before .before), r .deadline-most, r .period-most)
 
--- src/jobs.rt:36:21
 sub-limit : tie.Need-sub-limit Inv-loop μ-loop
 sub-limit c = omega (arith, c .before .before .pre .1 .cost-most)
 
--- src/jobs.rt:37:32
 start-from-requires : tie.Need-start-from-requires Inv-loop μ-loop
-start-from-requires c κs =     let s = c .before .before in
+start-from-requires c κs = let s = c .before .before in
     let r = s .pre .1 in
     (s .pre .0, omega (arith, less c, near s, r .blocking-most), omega (arith, near s, r .deadline-most, r .period-most), c .before .loop .inv .below)
 
--- src/jobs.rt:37:23
 enum-known-start : tie.Need-enum-known-start Inv-loop μ-loop
 enum-known-start c = search needs
 
--- src/jobs.rt:38:13
 enum-told : tie.Need-enum-told Inv-loop μ-loop
 enum-told c = search needs
 
--- src/jobs.rt:38:13
 returns : tie.Need-returns Inv-loop μ-loop
-returns c =     let s = c .before .before .before .before .before in
+returns c = let s = c .before .before .before .before .before in
     let a = s .args in
     let l = c .before .before .before .before .loop in
     sym
@@ -104,37 +87,30 @@ found c =
     seen (packedWork (a .periods .now) (a .costs .now) (a .count)) (grows s) (a .blocking) (a .period) (a .cost) (a .deadline) (s .pre .1) (a .length) (s .pre .2) (l .job) (c .before .start .given .0 .0)
     (c .before .before .before .before .loop-test .taken) (sym (c .before .before .before .start-from .ensures) ∙ c .before .start .given .1)
 
--- src/jobs.rt:40:37
 add-larger : tie.Need-add-larger Inv-loop μ-loop
 add-larger c = let s = found c in omega (arith, s .in-window, near (c .before .before .before .before .before .before))
 
--- src/jobs.rt:40:37
 sub-larger : tie.Need-sub-larger Inv-loop μ-loop
 sub-larger c = omega (arith, found c .release)
 
--- src/jobs.rt:40:9
 larger-requires : tie.Need-larger-requires Inv-loop μ-loop
 larger-requires c κs = search needs
 
--- src/jobs.rt:41:16
 add-from-2 : tie.Need-add-from-2 Inv-loop μ-loop
 add-from-2 c = let s = found (c .before) in omega (arith, s .in-window, near (c .before .before .before .before .before .before .before))
 
--- src/jobs.rt:42:9
 add-job : tie.Need-add-job Inv-loop μ-loop
-add-job c =     let k = c .before .before .before .before .before in
+add-job c = let k = c .before .before .before .before .before in
     let s = k .before .before in
     let a = s .args in
     let least = period-least (packedWork (a .periods .now) (a .costs .now) (a .count)) (grows s) (a .blocking) (a .period) (a .cost) (a .deadline) (s .pre .1) in
     omega (arith, mul-le-mul-left (k .before .loop .job) least, mul-one (k .before .loop .job), near s)
 
--- src/jobs.rt:33:5
 loop-less : tie.Need-loop-less Inv-loop μ-loop
 loop-less c = search needs
 
--- src/jobs.rt:33:5
 loop-again : tie.Need-loop-again Inv-loop μ-loop
-loop-again c =     let k = c .before in
+loop-again c = let k = c .before in
     let s = k .before .before .before .before .before .before in
     let a = s .args in
     let l = k .before .before .before .before .before .loop in
@@ -142,13 +118,11 @@ loop-again c =     let k = c .before in
     (jobs-next (packedWork (a .periods .now) (a .costs .now) (a .count)) (grows s) (a .blocking) (a .period) (a .cost) (a .deadline) (s .pre .1) (a .length) (s .pre .2) (l .most) (l .from) (l .job) (k .before .start .given .0 .0)
     (k .before .before .before .before .loop-test .taken) (l .inv) (found k))
 
--- src/jobs.rt:44:21
 cast-t21 : tie.Need-cast-t21 Inv-loop μ-loop
 cast-t21 c = let r = c .before .before .pre .1 in omega (arith, c .before .loop .inv .in-time, r .deadline-most, r .period-most)
 
--- src/jobs.rt:16:1
 returns-2 : tie.Need-returns-2 Inv-loop μ-loop
-returns-2 c =     let s = c .before .before in
+returns-2 c = let s = c .before .before in
     let a = s .args in
     let l = c .before .loop in
     sym

@@ -1,15 +1,12 @@
 use native.Mathlib.Omega.{arith}
-use mathlib.Core.Path.{_≡_, refl, sym, _∙_, ap, subst}
-use Prim.Native.Nat.{ℕ, _≤_, _<_, _-_, _+_, _*_, _/_}
+use mathlib.Core.Path.{_≡_, sym, _∙_, ap}
+use Prim.Native.Nat.{ℕ, _≤_, _-_, _+_}
 use native.Mathlib.Nat.{le-antisymm}
 use Rattle.verdict.specs.Shares.{packedShares}
 use Rattle.verdict.proofs.Overfull.{shares-none, shares-more, shares-most}
 use borrow.Author.Needs.{needs}
 use Rattle.verdict.proofs.shares.all_shares.Statement.{statement}
 use Rattle.verdict.proofs.shares.all_shares.Tie as tie
-use Rattle.verdict.proofs.shares.all_shares.Reads as reads
-use Rattle.verdict.proofs.shares.all_shares.Lts as lts
-use Rattle.verdict.proofs.shares.share.Reads as share-reads
 
 abbrev Inv-loop : tie.InvT-loop
 Inv-loop periods costs count sum₀ other₀ sum other = (other ≤ count) × (sum ≡ packedShares periods costs other)
@@ -17,29 +14,23 @@ Inv-loop periods costs count sum₀ other₀ sum other = (other ≤ count) × (s
 abbrev μ-loop : tie.MeasureT-loop
 μ-loop periods costs count sum₀ other₀ sum other = count - other
 
--- src/shares.rt:29:5
 loop-holds : tie.Need-loop-holds Inv-loop μ-loop
 loop-holds c = (omega arith, sym (shares-none _ _))
 
--- src/shares.rt:30:27
 mul-share : tie.Need-mul-share Inv-loop μ-loop
 mul-share c = search needs
 
--- src/shares.rt:30:27
 element-copy-out-share : tie.Need-element-copy-out-share Inv-loop μ-loop
 element-copy-out-share c = search needs
 
--- src/shares.rt:30:43
 mul-share-2 : tie.Need-mul-share-2 Inv-loop μ-loop
 mul-share-2 c = search needs
 
--- src/shares.rt:30:43
 element-copy-out-share-2 : tie.Need-element-copy-out-share-2 Inv-loop μ-loop
 element-copy-out-share-2 c = search needs
 
--- src/shares.rt:30:21
 share-requires : tie.Need-share-requires Inv-loop μ-loop
-share-requires c κs =     let s = c .before .before .before .before in
+share-requires c κs = let s = c .before .before .before .before in
     let l = c .before .before .loop-test .taken in
     (s .pre .period-least _ l, s .pre .cost-most _ l)
 
@@ -54,28 +45,23 @@ next c =
     let a = c .before .before .before .before .before .args in
     cc (shares-more (a .periods .now) (a .costs .now) (l .other))
 
--- src/shares.rt:30:15
 add-sum : tie.Need-add-sum Inv-loop μ-loop
-add-sum c =     let l = c .before .before .before .before .loop in
+add-sum c = let l = c .before .before .before .before .loop in
     let s = c .before .before .before .before .before in
     let a = s .args in
     omega (arith, next c, shares-most (a .periods .now) (a .costs .now) (l .other + 1) (λ k h. s .pre .cost-most k (omega arith)), s .pre .few)
 
--- src/shares.rt:31:9
 add-other : tie.Need-add-other Inv-loop μ-loop
 add-other c = search needs
 
--- src/shares.rt:29:5
 loop-less : tie.Need-loop-less Inv-loop μ-loop
 loop-less c = search needs
 
--- src/shares.rt:29:5
 loop-again : tie.Need-loop-again Inv-loop μ-loop
 loop-again c = (omega arith, next c)
 
--- src/shares.rt:19:1
 returns : tie.Need-returns Inv-loop μ-loop
-returns c =     let a = c .before .before .args in
+returns c = let a = c .before .before .args in
     c .before .loop .inv .1 ∙ ap (λ (k : ℕ). packedShares (a .periods .now) (a .costs .now) k) (le-antisymm (c .before .loop .inv .0) (c .loop-test .left))
 
 pub all-shares-spec : {M : Type 1} → statement M

@@ -1,15 +1,12 @@
 use native.Mathlib.Omega.{arith}
-use mathlib.Core.Path.{_≡_, refl, sym, _∙_, ap, subst}
-use Prim.Native.Nat.{ℕ, _≤_, _<_, _-_, _+_, _*_, _/_}
+use mathlib.Core.Path.{_≡_, sym, _∙_, ap}
+use Prim.Native.Nat.{ℕ, _≤_, _-_, _+_}
 use native.Mathlib.Nat.{le-antisymm}
 use Rattle.demand.specs.Packed.{packedWork}
 use Rattle.demand.proofs.Packed.{packed-none, packed-more, packed-most}
 use borrow.Author.Needs.{needs}
 use Rattle.verdict.proofs.starts.work.Statement.{statement}
 use Rattle.verdict.proofs.starts.work.Tie as tie
-use Rattle.verdict.proofs.starts.work.Reads as reads
-use Rattle.verdict.proofs.starts.work.Lts as lts
-use Rattle.verdict.proofs.starts.released_work.Reads as released-work-reads
 
 abbrev Inv-loop : tie.InvT-loop
 Inv-loop periods costs count w sum₀ other₀ sum other = (other ≤ count) × (sum ≡ packedWork periods costs other w)
@@ -17,29 +14,23 @@ Inv-loop periods costs count w sum₀ other₀ sum other = (other ≤ count) × 
 abbrev μ-loop : tie.MeasureT-loop
 μ-loop periods costs count w sum₀ other₀ sum other = count - other
 
--- src/starts.rt:29:5
 loop-holds : tie.Need-loop-holds Inv-loop μ-loop
 loop-holds c = (omega arith, sym (packed-none _ _ _))
 
--- src/starts.rt:30:35
 mul-released-work : tie.Need-mul-released-work Inv-loop μ-loop
 mul-released-work c = search needs
 
--- src/starts.rt:30:35
 element-copy-out-released-work : tie.Need-element-copy-out-released-work Inv-loop μ-loop
 element-copy-out-released-work c = search needs
 
--- src/starts.rt:30:51
 mul-released-work-2 : tie.Need-mul-released-work-2 Inv-loop μ-loop
 mul-released-work-2 c = search needs
 
--- src/starts.rt:30:51
 element-copy-out-released-work-2 : tie.Need-element-copy-out-released-work-2 Inv-loop μ-loop
 element-copy-out-released-work-2 c = search needs
 
--- src/starts.rt:30:21
 released-work-requires : tie.Need-released-work-requires Inv-loop μ-loop
-released-work-requires c κs =     let s = c .before .before .before .before in
+released-work-requires c κs = let s = c .before .before .before .before in
     let l = c .before .before .loop-test .taken in
     (s .pre .0 .period-least _ l, s .pre .0 .cost-most _ l, s .pre .1)
 
@@ -54,28 +45,23 @@ next c =
     let a = c .before .before .before .before .before .args in
     cc (packed-more (a .periods .now) (a .costs .now) (l .other) (a .w))
 
--- src/starts.rt:30:15
 add-sum : tie.Need-add-sum Inv-loop μ-loop
-add-sum c =     let l = c .before .before .before .before .loop in
+add-sum c = let l = c .before .before .before .before .loop in
     let s = c .before .before .before .before .before in
     let a = s .args in
     omega (arith, next c, packed-most (a .periods .now) (a .costs .now) (l .other + 1) (a .w) (s .pre .1) (λ k h. s .pre .0 .cost-most k (omega arith)), s .pre .0 .few)
 
--- src/starts.rt:31:9
 add-other : tie.Need-add-other Inv-loop μ-loop
 add-other c = search needs
 
--- src/starts.rt:29:5
 loop-less : tie.Need-loop-less Inv-loop μ-loop
 loop-less c = search needs
 
--- src/starts.rt:29:5
 loop-again : tie.Need-loop-again Inv-loop μ-loop
 loop-again c = (omega arith, next c)
 
--- src/starts.rt:18:1
 returns : tie.Need-returns Inv-loop μ-loop
-returns c =     let a = c .before .before .args in
+returns c = let a = c .before .before .args in
     c .before .loop .inv .1 ∙ ap (λ (k : ℕ). packedWork (a .periods .now) (a .costs .now) k (a .w)) (le-antisymm (c .before .loop .inv .0) (c .loop-test .left))
 
 pub work-spec : {M : Type 1} → statement M

@@ -1,6 +1,6 @@
 use native.Mathlib.Omega.{arith}
-use mathlib.Core.Path.{_≡_, refl, sym, _∙_, ap, subst}
-use Prim.Native.Nat.{ℕ, _≤_, _<_, _-_, _+_, _*_, _/_}
+use mathlib.Core.Path.{sym}
+use Prim.Native.Nat.{_≤_, _-_}
 use Rattle.search.proofs.Jump.{Under, jump, stop-at, stop-none}
 use Rattle.model.specs.Limits.{horizon}
 use Rattle.demand.specs.Test.{firstMet}
@@ -11,10 +11,6 @@ use Rattle.demand.proofs.Over.{window-grows}
 use borrow.Author.Needs.{needs}
 use Rattle.verdict.proofs.windows.window_from.Statement.{statement}
 use Rattle.verdict.proofs.windows.window_from.Tie as tie
-use Rattle.verdict.proofs.windows.window_from.Reads as reads
-use Rattle.verdict.proofs.windows.window_from.Lts as lts
-use Rattle.verdict.proofs.starts.released_work.Reads as released-work-reads
-use Rattle.verdict.proofs.starts.work.Reads as work-reads
 
 abbrev Inv-loop : tie.InvT-loop
 Inv-loop periods costs count blocking period cost from t₀ t = (1 ≤ t) × Under (windowOver (packedWork periods costs count) blocking period cost) 1 t
@@ -22,32 +18,26 @@ Inv-loop periods costs count blocking period cost from t₀ t = (1 ≤ t) × Und
 abbrev μ-loop : tie.MeasureT-loop
 μ-loop periods costs count blocking period cost from t₀ t = 1_000_001 - t
 
--- src/windows.rt:25:5
 loop-holds : tie.Need-loop-holds Inv-loop μ-loop
 loop-holds c = (c .pre .4, c .pre .5)
 
--- src/windows.rt:26:20
 sub-last : tie.Need-sub-last Inv-loop μ-loop
 sub-last c = search needs
 
--- src/windows.rt:27:30
 released-work-requires : tie.Need-released-work-requires Inv-loop μ-loop
 released-work-requires c κs = search needs
 
--- src/windows.rt:27:19
 add-own : tie.Need-add-own Inv-loop μ-loop
-add-own c =     let s = c .before .before .before in
+add-own c = let s = c .before .before .before in
     let a = s .args in
     let t = c .before .before .loop .t in
     omega (arith, c .released-work .ensures, product-le (t - 1) (a .period) (a .cost) (omega arith) (s .pre .3))
 
--- src/windows.rt:28:27
 work-requires : tie.Need-work-requires Inv-loop μ-loop
 work-requires c κs = search needs
 
--- src/windows.rt:28:21
 add-asked : tie.Need-add-asked Inv-loop μ-loop
-add-asked c =     let s = c .before .before .before .before in
+add-asked c = let s = c .before .before .before .before in
     let a = s .args in
     let t = c .before .before .before .loop .t in
     omega (
@@ -59,23 +49,20 @@ add-asked c =     let s = c .before .before .before .before in
       s .pre .0 .few,
     )
 
--- src/windows.rt:30:13
 returns : tie.Need-returns Inv-loop μ-loop
 unfolding firstMet windowOver
-returns c =     let a = c .before .before .before .before .before .args in
+returns c = let a = c .before .before .before .before .before .args in
     let l = c .before .before .before .before .loop in
     sym
     (stop-at (windowOver (packedWork (a .periods .now) (a .costs .now) (a .count)) (a .blocking) (a .period) (a .cost)) 1 horizon (l .t) (l .inv .0) (c .before .before .before .loop-test .taken) (l .inv .1)
     (omega (arith, c .before .work .ensures, c .before .before .released-work .ensures)))
 
--- src/windows.rt:25:5
 loop-less : tie.Need-loop-less Inv-loop μ-loop
 loop-less c = search needs
 
--- src/windows.rt:25:5
 loop-again : tie.Need-loop-again Inv-loop μ-loop
 unfolding windowOver
-loop-again c =     let s = c .before .before .before .before .before in
+loop-again c = let s = c .before .before .before .before .before in
     let a = s .args in
     let l = c .before .before .before .before .loop in
     let work = packedWork (a .periods .now) (a .costs .now) (a .count) in (
@@ -86,10 +73,9 @@ loop-again c =     let s = c .before .before .before .before .before in
           (l .t) (l .inv .0) (l .inv .1)),
     )
 
--- src/windows.rt:12:1
 returns-2 : tie.Need-returns-2 Inv-loop μ-loop
 unfolding firstMet
-returns-2 c =     let a = c .before .before .args in
+returns-2 c = let a = c .before .before .args in
     let l = c .before .loop in
     sym (stop-none (windowOver (packedWork (a .periods .now) (a .costs .now) (a .count)) (a .blocking) (a .period) (a .cost)) 1 horizon (l .t) (c .loop-test .left) (l .inv .1))
 
