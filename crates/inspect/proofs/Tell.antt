@@ -14,7 +14,7 @@ use Rattle.laws.proofs.Every.{every-at, every-all}
 use Rattle.model.specs.Limits.{mostPartitions, taskOf}
 use Rattle.build.specs.Build.{placeOf, memberOf, buildHeaderOf, partitionSpareAt, memberSpareAt}
 use Rattle.inspect.specs.Kinds.{Order, Partition, Build}
-use Rattle.inspect.specs.Rules.{headerMatches, sparesZero, overlaps, partitionRight, wideEnough, rankRight}
+use Rattle.inspect.specs.Rules.{headerMatches, partitionSparesZero, taskSparesZero, sparesZero, overlaps, apartFromEarlier, partitionRight, wideEnough, rankRight}
 use Rattle.inspect.specs.Meaning.{InRange, HeaderMatches, SparesZero, Has, Overlap, PartitionRight, WideEnough, RankRight}
 
 -- tests of numbers
@@ -50,7 +50,7 @@ header-tells o s =
 
 -- 23
 pub spares-tell : (s : List ℕ) → (sparesZero s (buildHeaderOf s .partitions) (buildHeaderOf s .tasks) ≡ true) ↔ SparesZero s
-unfolding sparesZero
+unfolding sparesZero partitionSparesZero taskSparesZero
 spares-tell s =
     let p = buildHeaderOf s .partitions in
     let n = buildHeaderOf s .tasks in
@@ -76,7 +76,7 @@ overlap-tells a b =
 
 -- 24
 pub partition-tells : (processors : ℕ) (places : List Partition) (i : ℕ) → (partitionRight processors places i ≡ true) ↔ PartitionRight processors places i
-unfolding partitionRight
+unfolding partitionRight apartFromEarlier
 partition-tells processors places i =
     let place = placeOf places i in
     let apart : ℕ → Bool = λ j. not (overlaps (placeOf places j) place) in

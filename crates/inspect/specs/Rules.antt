@@ -27,9 +27,14 @@ headerMatches o header =
     pick (eqb (header .version) 1) (pick (eqb (header .processors) (o .processors)) (pick (eqb (header .tasks) (o .tasks)) (within 1 mostPartitions (header .partitions)) false) false) false
 
 -- 23: "spare bit set in the build"
+unfoldable pub partitionSparesZero : List ℕ → ℕ → Bool
+partitionSparesZero s partitions = every (λ i. eqb (partitionSpareAt s i) 0) partitions
+
+unfoldable pub taskSparesZero : List ℕ → ℕ → ℕ → Bool
+taskSparesZero s partitions tasks = every (λ i. eqb (memberSpareAt s partitions i) 0) tasks
+
 unfoldable pub sparesZero : List ℕ → ℕ → ℕ → Bool
-sparesZero s partitions tasks =
-    pick (every (λ i. eqb (partitionSpareAt s i) 0) partitions) (every (λ i. eqb (memberSpareAt s partitions i) 0) tasks) false
+sparesZero s partitions tasks = pick (partitionSparesZero s partitions) (taskSparesZero s partitions tasks) false
 
 -- "20 to 23 in turn"
 unfoldable pub buildLayoutRules : Order → List ℕ → BuildHeader → List Rule
@@ -44,11 +49,15 @@ buildLayoutRules o s header =
 unfoldable pub overlaps : Partition → Partition → Bool
 overlaps a b = ltb (max (a .first) (b .first)) (min (a .first + a .volume) (b .first + b .volume))
 
+-- no overlap with an earlier one
+unfoldable pub apartFromEarlier : List Partition → ℕ → Bool
+apartFromEarlier places i = every (λ j. not (overlaps (placeOf places j) (placeOf places i))) i
+
 -- 24: "volume 0, past M, or overlapping an earlier one"
 unfoldable pub partitionRight : ℕ → List Partition → ℕ → Bool
 partitionRight processors places i =
     let place = placeOf places i in
-    pick (leb 1 (place .volume)) (pick (leb (place .first + place .volume) processors) (every (λ j. not (overlaps (placeOf places j) place)) i) false) false
+    pick (leb 1 (place .volume)) (pick (leb (place .first + place .volume) processors) (apartFromEarlier places i) false) false
 
 -- "all partitions for 24"
 unfoldable pub partitionRules : ℕ → List Partition → ℕ → List Rule
@@ -104,10 +113,13 @@ unfoldable pub verdictRules : Verdict → ℕ → ℕ → List Rule
 verdictRules found recorded i =
     rule (windowThere found) (Window i) ∷ rule (startsThere found) (Start i) ∷ rule (inTime found) (Late i) ∷ rule (responseRight found recorded) (Response i) ∷ []
 
+-- 27 to 30 of one task
+abbrev pub taskTestRules : Order → Build → ℕ → List Rule
+taskTestRules o b i = verdictRules (verdict (o .table) (partitionsOf b) (o .tasks) i) (memberOf (b .members) i .response) i
+
 -- "then task by task 27 to 30"
 unfoldable pub testRules : Order → Build → ℕ → List Rule
-testRules o b tasks =
-    joined (λ i. verdictRules (verdict (o .table) (partitionsOf b) (o .tasks) i) (memberOf (b .members) i .response) i) tasks
+testRules o b tasks = joined (λ i. taskTestRules o b i) tasks
 
 -- 24 to 30, of the build that was read
 unfoldable pub recordRules : Order → Build → List Rule
