@@ -48,7 +48,8 @@ module _ (o : Order) (b : Build) (releases : Pattern) where
   pub record Kept : Type 0 where
     -- "no accelerator serves two jobs at once"
     pub one-job : (tick processor task release task′ release′ : ℕ) → ServedBy tick processor task release → ServedBy tick processor task′ release′ → (task ≡ task′) × (release ≡ release′)
-    pub own-partition : (tick task release : ℕ) → RunningAt tick task release → OnEnough task
+    -- it runs in the partition that the build records for its task, on enough of its processors
+    pub own-partition : (tick task release : ℕ) → (job : RunningAt tick task release) → (job .partition ≡ partitionOf (partitionsOf b) task) × OnEnough task
     pub in-time : (task release : ℕ) → 0 < releases release task → FinishesSoon task release
 
 -- every order and build that the check accepts, and every legal release pattern, endless ones too
