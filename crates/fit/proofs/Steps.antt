@@ -13,7 +13,7 @@ use Rattle.search.proofs.First.{IsFirst, Firstly}
 use Rattle.demand.specs.Test.{Sound}
 use Rattle.fit.specs.Kinds.{Task, Answer, Done, Refused, Refusal, Found, At, Nothing, Placing, Outcome}
 use Rattle.fit.specs.Turns.{widthOf, isUnplaced, nextTask}
-use Rattle.fit.specs.Steps.{nothingPlaced, put, openNext, goingOn, refusing, accepts, lowestAccepting, settled, afterTurn, step, unlessRefused, steps}
+use Rattle.fit.specs.Steps.{nothingPlaced, put, openNext, goingOn, refusing, accepts, lowestAccepting, opening, settled, afterTurn, step, unlessRefused, steps}
 use Rattle.fit.specs.Claims.{IsNext, RefusedIn}
 use Rattle.fit.proofs.Turns.{next-is, none-next}
 use Rattle.fit.proofs.Put.{waiting, one-waits}
@@ -51,9 +51,11 @@ module _ (table : List Task) (n M : ℕ) where
     step-put k e = step-next ∙ rw e
 
     pub step-open : lowestAccepting table n s i ≡ Nothing → widthOf table i ≤ M - s .used → step table n M s ≡ goingOn (put (openNext s (widthOf table i)) i (s .opened))
+    unfolding opening
     step-open e l = step-next ∙ rw (e, le-leb (widthOf table i) (M - s .used) l)
 
     pub step-refuse : lowestAccepting table n s i ≡ Nothing → M - s .used < widthOf table i → step table n M s ≡ refusing s i
+    unfolding opening
     step-refuse e l = step-next ∙ rw (e, lt-leb (widthOf table i) (M - s .used) l)
 
   refused-never : (o : Outcome) (t : Placing) (cause : Refusal) → o .answer ≡ Refused cause → o ≡ goingOn t → ⊥

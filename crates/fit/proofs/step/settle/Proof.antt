@@ -1,0 +1,53 @@
+use borrow.Author.Needs.{needs}
+use Rattle.fit.proofs.step.settle.Statement.{statement}
+use Rattle.fit.proofs.step.settle.Tie as tie
+use Rattle.fit.proofs.step.settle.Reads as reads
+use Rattle.fit.proofs.step.settle.Lts as lts
+use Rattle.fit.proofs.state.Placing.put.Reads as put-reads
+use Rattle.fit.proofs.step.going_on.Reads as going-on-reads
+use Rattle.fit.proofs.step.open_for.Reads as open-for-reads
+
+-- src/step.rt:55:19
+enum-known-found : tie.Need-enum-known-found
+enum-known-found c = search needs
+
+-- src/step.rt:55:60
+cast-put : tie.Need-cast-put
+cast-put c = search needs
+
+-- src/step.rt:55:42
+put-requires : tie.Need-put-requires
+put-requires c κs = search needs
+
+-- src/step.rt:55:33
+going-on-requires : tie.Need-going-on-requires
+going-on-requires c κs = search needs
+
+-- src/step.rt:56:27
+enum-told : tie.Need-enum-told
+enum-told c = search needs
+
+-- src/step.rt:56:27
+open-for-requires : tie.Need-open-for-requires
+open-for-requires c κs = search needs
+
+-- src/step.rt:44:1
+returns : tie.Need-returns
+returns c = search needs
+
+-- src/step.rt:44:1
+returns-2 : tie.Need-returns-2
+returns-2 c = search needs
+
+pub settle-spec : {M : Type 1} → statement M
+settle-spec =
+    tie.close
+    (tie.spec
+    enum-known-found
+    cast-put
+    put-requires
+    going-on-requires
+    enum-told
+    open-for-requires
+    returns
+    returns-2)
