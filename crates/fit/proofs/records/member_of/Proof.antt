@@ -1,3 +1,5 @@
+use Rattle.fit.specs.Recorded.{responseOf, memberOf}
+use mathlib.Core.Path.{_≡_, refl, sym, ap, _∙_}
 use borrow.Author.Needs.{needs}
 use Rattle.fit.proofs.records.member_of.Statement.{statement}
 use Rattle.fit.proofs.records.member_of.Tie as tie
@@ -29,7 +31,8 @@ response-of-requires c κs = search needs
 
 -- src/records.rt:30:1
 returns : tie.Need-returns
-returns c = search needs
+unfolding memberOf
+returns c = cc (ap responseOf (c .before .verdict .ensures))
 
 pub member-of-spec : {M : Type 1} → statement M
 member-of-spec =

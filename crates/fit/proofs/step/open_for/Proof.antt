@@ -1,3 +1,8 @@
+use Rattle.fit.proofs.Steps.{opening-new, opening-none}
+use Rattle.fit.specs.Kinds.{Placing}
+use mathlib.Core.Path.{_≡_, refl, sym, ap, _∙_}
+use Rattle.fit.specs.Steps.{opening, put, goingOn}
+use borrow.Author.Tests.{le-leb, lt-leb}
 use borrow.Author.Needs.{needs}
 use Rattle.fit.proofs.step.open_for.Statement.{statement}
 use Rattle.fit.proofs.step.open_for.Tie as tie
@@ -33,7 +38,7 @@ going-on-requires c κs = search needs
 
 -- src/step.rt:35:9
 returns : tie.Need-returns
-returns c = search needs
+returns c = let a = c .before .before .before .before .before .before .before .args in c .going-on .ensures ∙ (ap goingOn (c .before .put .ensures ∙ ap (λ (s : Placing). put s (a .task) (a .placing .opened)) (c .before .before .open-next .ensures)) ∙ sym (opening-new (a .t1) 0 (a .processors) (a .placing) (a .task) (c .before .before .before .if1 .taken)))
 
 -- src/step.rt:38:51
 cast-t15 : tie.Need-cast-t15
@@ -41,7 +46,7 @@ cast-t15 c = search needs
 
 -- src/step.rt:28:1
 returns-2 : tie.Need-returns-2
-returns-2 c = search needs
+returns-2 c = let a = c .before .before .before .before .args in sym (opening-none (a .t1) 0 (a .processors) (a .placing) (a .task) (c .if1 .left))
 
 pub open-for-spec : {M : Type 1} → statement M
 open-for-spec =
