@@ -11,7 +11,7 @@ use Rattle.search.proofs.First.{IsFirst, Firstly, first-found, first-missing, f
 use Rattle.demand.specs.Priority.{inPartition}
 use Rattle.demand.specs.Test.{verdict, doesPass}
 use Rattle.fit.specs.Kinds.{Task, Found, At, Nothing, Verdict, Passes, NoWindow, NoStart, Late, Placing}
-use Rattle.fit.specs.Steps.{membersPass, accepts, lowestAccepting}
+use Rattle.fit.specs.Steps.{memberPasses, membersPass, accepts, lowestAccepting}
 use Rattle.fit.specs.Claims.{AcceptsMeans}
 
 pub pass-says : (v : Verdict) → doesPass v ≡ true → (worst : ℕ) × (v ≡ Passes worst)
@@ -21,42 +21,44 @@ pass-says NoStart e = clash e
 pass-says Late e = clash e
 
 module _ (table : List Task) (n : ℕ) (partitions : List ℕ) (i : ℕ) where
-  -- the test of one task: it passes if it is a member
-  abbrev pub memberPasses : ℕ → Bool
-  memberPasses j = elim (inPartition partitions i j) [ true ↦ doesPass (verdict table partitions n j) | false ↦ true ]
-
-  pub member-of : (j : ℕ) → inPartition partitions i j ≡ true → memberPasses j ≡ doesPass (verdict table partitions n j)
+  pub member-of : (j : ℕ) → inPartition partitions i j ≡ true → memberPasses table n partitions i j ≡ doesPass (verdict table partitions n j)
+  unfolding memberPasses
   member-of j e = rw (e, memberPasses)
 
-  pub stranger : (j : ℕ) → inPartition partitions i j ≡ false → memberPasses j ≡ true
+  pub stranger : (j : ℕ) → inPartition partitions i j ≡ false → memberPasses table n partitions i j ≡ true
+  unfolding memberPasses
   stranger j e = rw (e, memberPasses)
 
   pub members-say : membersPass table n partitions i ≡ true → (j : ℕ) → j < n → inPartition partitions i j ≡ true → doesPass (verdict table partitions n j) ≡ true
   unfolding membersPass
-  members-say e j l m = sym (member-of j m) ∙ every-at memberPasses n e j l
+  members-say e j l m = sym (member-of j m) ∙ every-at (memberPasses table n partitions i) n e j l
 
   pub say-members : ((j : ℕ) → j < n → inPartition partitions i j ≡ true → doesPass (verdict table partitions n j) ≡ true) → membersPass table n partitions i ≡ true
   unfolding membersPass
-  say-members each = every-all memberPasses n (λ j l. go j l (inPartition partitions i j) refl)
+  say-members each = every-all (memberPasses table n partitions i) n (λ j l. go j l (inPartition partitions i j) refl)
     where
-      go : (j : ℕ) → j < n → (b : Bool) → inPartition partitions i j ≡ b → memberPasses j ≡ true
+      go : (j : ℕ) → j < n → (b : Bool) → inPartition partitions i j ≡ b → memberPasses table n partitions i j ≡ true
       go j l true e = member-of j e ∙ each j l e
       go j l false e = stranger j e
 
   -- one member that fails is enough
-  pub members-not : (j : ℕ) → j < n → memberPasses j ≡ false → membersPass table n partitions i ≡ false
+  pub members-not : (j : ℕ) → j < n → memberPasses table n partitions i j ≡ false → membersPass table n partitions i ≡ false
   unfolding membersPass
-  members-not j l e = every-stop memberPasses n j l e
+  members-not j l e = every-stop (memberPasses table n partitions i) n j l e
 
-  pub members-all : ((j : ℕ) → j < n → memberPasses j ≡ true) → membersPass table n partitions i ≡ true
+  pub members-all : ((j : ℕ) → j < n → memberPasses table n partitions i j ≡ true) → membersPass table n partitions i ≡ true
   unfolding membersPass
-  members-all each = every-all memberPasses n each
+  members-all each = every-all (memberPasses table n partitions i) n each
 
 pub accepts-means : AcceptsMeans
 unfolding accepts
 accepts-means table n partitions i k =
     (λ e j l m. pass-says (verdict table (set partitions i k) n j) (members-say table n (set partitions i k) i e j l m),
     λ each. say-members table n (set partitions i k) i (λ j l m. ap doesPass (each j l m .1)))
+
+pub accepts-are : (table : List Task) (n : ℕ) (partitions : List ℕ) (i k : ℕ) → accepts table n partitions i k ≡ membersPass table n (set partitions i k) i
+unfolding accepts
+accepts-are table n partitions i k = refl
 
 -- the lowest partition that takes a task
 module _ (table : List Task) (n : ℕ) (s : Placing) (i : ℕ) where

@@ -13,7 +13,7 @@ use Rattle.search.proofs.First.{IsFirst, Firstly}
 use Rattle.demand.specs.Test.{Sound}
 use Rattle.fit.specs.Kinds.{Task, Answer, Done, Refused, Refusal, Found, At, Nothing, Placing, Outcome}
 use Rattle.fit.specs.Turns.{widthOf, isUnplaced, nextTask}
-use Rattle.fit.specs.Steps.{nothingPlaced, put, openNext, goingOn, refusing, accepts, lowestAccepting, settled, afterTurn, step, unlessRefused, steps}
+use Rattle.fit.specs.Steps.{nothingPlaced, put, openNext, goingOn, refusing, accepts, lowestAccepting, opening, settled, afterTurn, step, unlessRefused, steps}
 use Rattle.fit.specs.Claims.{IsNext, RefusedIn}
 use Rattle.fit.proofs.Turns.{next-is, none-next}
 use Rattle.fit.proofs.Put.{waiting, one-waits}
@@ -41,6 +41,14 @@ module _ (table : List Task) (n M : ℕ) where
   unfolding steps unlessRefused
   steps-stop k i s t e = ap (λ (o : Outcome). unlessRefused o (steps table n M k)) e
 
+  pub opening-new : (s : Placing) (i : ℕ) → widthOf table i ≤ M - s .used → opening table M s i ≡ goingOn (put (openNext s (widthOf table i)) i (s .opened))
+  unfolding opening
+  opening-new s i l = rw (le-leb (widthOf table i) (M - s .used) l)
+
+  pub opening-none : (s : Placing) (i : ℕ) → M - s .used < widthOf table i → opening table M s i ≡ refusing s i
+  unfolding opening
+  opening-none s i l = rw (lt-leb (widthOf table i) (M - s .used) l)
+
   module _ (s : Placing) (i : ℕ) (turn : nextTask table (s .partitions) n ≡ At i) where
     -- a step is the turn of the next task, settled
     pub step-next : step table n M s ≡ settled table M s i (lowestAccepting table n s i)
@@ -51,10 +59,10 @@ module _ (table : List Task) (n M : ℕ) where
     step-put k e = step-next ∙ rw e
 
     pub step-open : lowestAccepting table n s i ≡ Nothing → widthOf table i ≤ M - s .used → step table n M s ≡ goingOn (put (openNext s (widthOf table i)) i (s .opened))
-    step-open e l = step-next ∙ rw (e, le-leb (widthOf table i) (M - s .used) l)
+    step-open e l = step-next ∙ (ap (settled table M s i) e ∙ opening-new s i l)
 
     pub step-refuse : lowestAccepting table n s i ≡ Nothing → M - s .used < widthOf table i → step table n M s ≡ refusing s i
-    step-refuse e l = step-next ∙ rw (e, lt-leb (widthOf table i) (M - s .used) l)
+    step-refuse e l = step-next ∙ (ap (settled table M s i) e ∙ opening-none s i l)
 
   refused-never : (o : Outcome) (t : Placing) (cause : Refusal) → o .answer ≡ Refused cause → o ≡ goingOn t → ⊥
   refused-never o t cause p e =

@@ -40,10 +40,13 @@ abbrev pub refusing : Placing → ℕ → Outcome
 refusing s i = record { answer = Refused (FirstFit i); placing = s }
 
 module _ (table : List Task) (n : ℕ) where
-  -- task i "and all members there pass", in the partition where i is
+  -- task j passes, if it is in task i's partition
+  unfoldable pub memberPasses : List ℕ → ℕ → ℕ → Bool
+  memberPasses partitions i j = elim (inPartition partitions i j) [ true ↦ doesPass (verdict table partitions n j) | false ↦ true ]
+
+  -- "it and all members there pass", for task i in the partition where it is
   unfoldable pub membersPass : List ℕ → ℕ → Bool
-  membersPass partitions i =
-      every (λ j. elim (inPartition partitions i j) [ true ↦ doesPass (verdict table partitions n j) | false ↦ true ]) n
+  membersPass partitions i = every (memberPasses partitions i) n
 
   -- the same once i is put in partition k
   unfoldable pub accepts : List ℕ → ℕ → ℕ → Bool
@@ -53,11 +56,15 @@ module _ (table : List Task) (n : ℕ) where
   unfoldable pub lowestAccepting : Placing → ℕ → Found
   lowestAccepting s i = firstOf (accepts (s .partitions) i) 0 (s .opened)
 
--- "Put each in the lowest-numbered partition .. Else, if m processors are left, open the next partition .. Else refuse, naming that task."
+-- "if m processors are left, open the next partition .. Else refuse, naming that task."
+unfoldable pub opening : List Task → ℕ → Placing → ℕ → Outcome
+opening table M s i =
+    pick (leb (widthOf table i) (M - s .used)) (goingOn (put (openNext s (widthOf table i)) i (s .opened))) (refusing s i)
+
+-- "Put each in the lowest-numbered partition where it and all members there pass. Else, .."
 abbrev pub settled : List Task → ℕ → Placing → ℕ → Found → Outcome
 settled table M s i (At k) = goingOn (put s i k)
-settled table M s i Nothing =
-    pick (leb (widthOf table i) (M - s .used)) (goingOn (put (openNext s (widthOf table i)) i (s .opened))) (refusing s i)
+settled table M s i Nothing = opening table M s i
 
 -- the task whose turn it is, settled
 abbrev pub afterTurn : List Task → ℕ → ℕ → Placing → Found → Outcome

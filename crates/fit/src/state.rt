@@ -3,6 +3,9 @@ use model::Answer;
 use model::Build;
 use model::Order;
 use model::Partition;
+ghost use mathlib.Core.Path.{_≡_};
+ghost use Prim.Native.Nat.{_+_, _≤_, _<_};
+ghost use Rattle.fit.specs.Steps.{nothingPlaced, put as putOf, openNext};
 
 // Each task's partition, the opened partitions, their count, and the processors used.
 pub struct Placing {
@@ -10,6 +13,51 @@ pub struct Placing {
     pub places: [Partition; Build::MOST_PARTITIONS],
     pub opened: u32,
     pub used: u32,
+}
+
+impl Placing {
+    // The partition number of a task that is not placed yet.
+    pub const UNPLACED: u32 = 32;
+
+    // No task is placed, no partition is open.
+    pub fn nothing() -> Self
+        ensures { λ r. ⌜ r ≡ nothingPlaced ⌝ }
+    {
+        let place = Partition::zero();
+        Self {
+            partitions: [Placing::UNPLACED; Order::MOST_TASKS],
+            places: [place; Build::MOST_PARTITIONS],
+            opened: 0,
+            used: 0,
+        }
+    }
+
+    // The task is put in the partition.
+    pub fn put(self, task: usize, partition: u32) -> Self
+        requires { ⌜ task < 32 ⌝ }
+        ensures { λ r. ⌜ r ≡ putOf self task partition ⌝ }
+    {
+        let mut next = self;
+        next.partitions[task] = partition;
+        next
+    }
+
+    // The next partition is opened, with so many processors from the lowest unused one on.
+    pub fn open_next(self, volume: u32) -> Self
+        requires { ⌜ (self .opened < 32) × (self .used + volume ≤ 64) ⌝ }
+        ensures { λ r. ⌜ r ≡ openNext self volume ⌝ }
+    {
+        let at = self.opened as usize;
+        let place = Partition {
+            volume,
+            first: self.used,
+        };
+        let mut next = self;
+        next.places[at] = place;
+        next.opened = self.opened + 1;
+        next.used = self.used + volume;
+        next
+    }
 }
 
 // The placing that was reached, and whether it went on or a task was refused there.
