@@ -1,10 +1,8 @@
 -- Condition 3, proved: from the check's rules to the machine's and the theory's premises.
-use Prim.Native.Nat.{ℕ, _+_, _-_, _≤_, _<_}
-use mathlib.Core.Path.{_≡_, refl, sym, ap, _∙_, subst}
-use mathlib.Core.List.{List}
+use Prim.Native.Nat.{ℕ, _-_, _≤_, _<_}
+use mathlib.Core.Path.{_≡_, sym}
 use native.Mathlib.Decide.{decLt}
 use native.Mathlib.Omega.{arith}
-use lib.ListN.{getD}
 use Rattle.laws.proofs.Filled.{filled-in}
 use Rattle.model.specs.declared.order.Order.{Order}
 use Rattle.model.specs.declared.build.Build.{Build}
@@ -18,8 +16,8 @@ use Rattle.machine.specs.Box.{partitionOf, processorOf, volumeOf, FirstOf, plac
 use Rattle.machine.specs.Claims.{WideAndApart}
 use Rattle.machine.proofs.Box.{runs-own-jobs, occupies-own, serves-one, occupies-width}
 use Rattle.busy.proofs.Passing.{passing-is-in-time}
-use Rattle.inspect.specs.Rules.{partitionsOf, checkAnswer}
-use Rattle.inspect.specs.Meaning.{Has, PartitionRight}
+use Rattle.inspect.specs.Rules.{partitionsOf}
+use Rattle.inspect.specs.Meaning.{Has}
 use Rattle.inspect.specs.Claims.{Accepted}
 use Rattle.inspect.proofs.Claims.{done-accepts}
 use Rattle.condition.specs.Condition3.{Kept, Condition3}

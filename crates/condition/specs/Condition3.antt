@@ -5,7 +5,6 @@ use Prim.Native.Nat.{ℕ, _+_, _≤_, _<_}
 use mathlib.Core.Path.{_≡_}
 use mathlib.Core.List.{List}
 use Rattle.model.specs.declared.order.Order.{Order}
-use Rattle.model.specs.declared.order.Task.{Task}
 use Rattle.model.specs.declared.build.Build.{Build}
 use Rattle.model.specs.declared.build.Partition.{Partition}
 use Rattle.model.specs.declared.answer.Answer.the-variants.{Done}
