@@ -32,7 +32,9 @@ judge-verdict-requires c κs = search needs
 
 -- src/members.rt:112:1
 returns : tie.Need-returns
-returns c = search needs
+returns c =
+    let a = c .before .before .before .before .before .before in
+    rw (c .judge-verdict .ensures, c .before .verdict .ensures, a .pre .2)
 
 pub judge-test-spec : {M : Type 1} → statement M
 judge-test-spec =

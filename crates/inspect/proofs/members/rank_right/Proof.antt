@@ -1,3 +1,4 @@
+use Rattle.inspect.specs.Rules.{rankRight}
 use borrow.Author.Needs.{needs}
 use Rattle.inspect.proofs.members.rank_right.Statement.{statement}
 use Rattle.inspect.proofs.members.rank_right.Tie as tie
@@ -23,7 +24,8 @@ rank-requires c κs = search needs
 
 -- src/members.rt:63:1
 returns : tie.Need-returns
-returns c = search needs
+unfolding rankRight
+returns c = rw (c .before .rank .ensures, c .before .before .before .before .before .before .pre .2)
 
 pub rank-right-spec : {M : Type 1} → statement M
 rank-right-spec =

@@ -1,3 +1,5 @@
+use Rattle.inspect.specs.Rules.{wideEnough}
+use borrow.Author.Tests.{lt-ltb, le-ltb}
 use borrow.Author.Needs.{needs}
 use Rattle.inspect.proofs.members.wide_enough.Statement.{statement}
 use Rattle.inspect.proofs.members.wide_enough.Tie as tie
@@ -34,11 +36,13 @@ array-copy-out-mine c = search needs
 
 -- src/members.rt:25:9
 returns : tie.Need-returns
-returns c = search needs
+unfolding wideEnough
+returns c = rw (lt-ltb _ _ (c .before .before .before .before .before .before .before .if1 .taken))
 
 -- src/members.rt:13:1
 returns-2 : tie.Need-returns-2
-returns-2 c = search needs
+unfolding wideEnough
+returns-2 c = rw (le-ltb _ _ (c .if1 .left))
 
 pub wide-enough-spec : {M : Type 1} → statement M
 wide-enough-spec =

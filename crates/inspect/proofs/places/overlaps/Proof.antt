@@ -1,3 +1,4 @@
+use Rattle.inspect.specs.Rules.{overlaps as overlapsOf}
 use borrow.Author.Needs.{needs}
 use Rattle.inspect.proofs.places.overlaps.Statement.{statement}
 use Rattle.inspect.proofs.places.overlaps.Tie as tie
@@ -24,7 +25,8 @@ smaller-requires c κs = search needs
 
 -- src/places.rt:25:1
 returns : tie.Need-returns
-returns c = search needs
+unfolding overlapsOf
+returns c = cc
 
 pub overlaps-spec : {M : Type 1} → statement M
 overlaps-spec =
