@@ -6,14 +6,11 @@ use lib.Dec.{eqb}
 use mathlib.Core.Bool.{true}
 use denote.Ref.{now}
 use native.Mathlib.Nat.{le-antisymm}
-use mathlib.Core.Path.{_≡_, sym, ap, _∙_}
-use Prim.Native.Nat.{ℕ, _≤_, _-_}
+use mathlib.Core.Path.{_≡_, sym, _∙_}
+use Prim.Native.Nat.{_≤_, _-_}
 use borrow.Author.Needs.{needs}
 use Rattle.inspect.proofs.layout.task_spares_zero.Statement.{statement}
 use Rattle.inspect.proofs.layout.task_spares_zero.Tie as tie
-use Rattle.inspect.proofs.layout.task_spares_zero.Reads as reads
-use Rattle.inspect.proofs.layout.task_spares_zero.Lts as lts
-use Rattle.build.proofs.member_spare.Reads as member-spare-reads
 
 abbrev Inv-loop : tie.InvT-loop
 Inv-loop build partitions tasks i₀ i = (i ≤ tasks) × (taskSparesZero build partitions i ≡ true)
@@ -21,16 +18,13 @@ Inv-loop build partitions tasks i₀ i = (i ≤ tasks) × (taskSparesZero build 
 abbrev μ-loop : tie.MeasureT-loop
 μ-loop build partitions tasks i₀ i = tasks - i
 
--- src/layout.rt:47:5
 loop-holds : tie.Need-loop-holds Inv-loop μ-loop
 unfolding taskSparesZero
 loop-holds c = (search needs, every-none _)
 
--- src/layout.rt:48:12
 member-spare-requires : tie.Need-member-spare-requires Inv-loop μ-loop
 member-spare-requires c κs = search needs
 
--- src/layout.rt:49:13
 returns : tie.Need-returns Inv-loop μ-loop
 unfolding taskSparesZero
 returns c =
@@ -39,15 +33,12 @@ returns c =
     let s = now (a .build) in
     sym (every-stop (λ k. eqb (memberSpareAt s (a .partitions) k) 0) (a .tasks) (w .loop .i) (c .before .before .loop-test .taken) (ne-eqb _ 0 (λ e. c .if1 .taken (c .before .member-spare .ensures ∙ e))))
 
--- src/layout.rt:51:9
 add-i : tie.Need-add-i Inv-loop μ-loop
 add-i c = search needs
 
--- src/layout.rt:47:5
 loop-less : tie.Need-loop-less Inv-loop μ-loop
 loop-less c = search needs
 
--- src/layout.rt:47:5
 loop-again : tie.Need-loop-again Inv-loop μ-loop
 unfolding taskSparesZero
 loop-again c =
@@ -56,7 +47,6 @@ loop-again c =
     let s = now (a .build) in
     (search needs, every-more (λ k. eqb (memberSpareAt s (a .partitions) k) 0) (w .loop .i) (w .loop .inv .1) (eq-eqb _ 0 (sym (c .before .member-spare .ensures) ∙ c .if1 .left)))
 
--- src/layout.rt:42:1
 returns-2 : tie.Need-returns-2 Inv-loop μ-loop
 returns-2 c =
     let a = c .before .before .before .args in

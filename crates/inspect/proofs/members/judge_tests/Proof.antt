@@ -1,5 +1,4 @@
 use Rattle.inspect.specs.Rules.{taskTestRules, testRules}
-use Rattle.inspect.specs.Kinds.{Order}
 use Rattle.model.proofs.Rules.{hold-done, done-hold, scan-none, scan-more, scan-stop}
 use Rattle.model.specs.Rules.{allHold}
 use native.Mathlib.Nat.{le-antisymm}
@@ -8,9 +7,6 @@ use Prim.Native.Nat.{_≤_, _-_}
 use borrow.Author.Needs.{needs}
 use Rattle.inspect.proofs.members.judge_tests.Statement.{statement}
 use Rattle.inspect.proofs.members.judge_tests.Tie as tie
-use Rattle.inspect.proofs.members.judge_tests.Reads as reads
-use Rattle.inspect.proofs.members.judge_tests.Lts as lts
-use Rattle.inspect.proofs.members.judge_test.Reads as judge-test-reads
 
 abbrev Inv-loop : tie.InvT-loop
 Inv-loop order build numbers tasks i₀ i = (i ≤ tasks) × allHold (testRules order build i)
@@ -18,24 +14,19 @@ Inv-loop order build numbers tasks i₀ i = (i ≤ tasks) × allHold (testRules 
 abbrev μ-loop : tie.MeasureT-loop
 μ-loop order build numbers tasks i₀ i = tasks - i
 
--- src/members.rt:133:17
 cast-tasks : tie.Need-cast-tasks Inv-loop μ-loop
 cast-tasks c = search needs
 
--- src/members.rt:135:5
 loop-holds : tie.Need-loop-holds Inv-loop μ-loop
 unfolding testRules
 loop-holds c = (search needs, scan-none _)
 
--- src/members.rt:136:13
 judge-test-requires : tie.Need-judge-test-requires Inv-loop μ-loop
 judge-test-requires c κs = search needs
 
--- src/members.rt:137:32
 enum-known-judged : tie.Need-enum-known-judged Inv-loop μ-loop
 enum-known-judged c = search needs
 
--- src/members.rt:138:13
 returns : tie.Need-returns Inv-loop μ-loop
 unfolding testRules
 returns c =
@@ -47,15 +38,12 @@ returns c =
 enum-told : tie.Need-enum-told Inv-loop μ-loop
 enum-told c = search needs
 
--- src/members.rt:140:9
 add-i : tie.Need-add-i Inv-loop μ-loop
 add-i c = search needs
 
--- src/members.rt:135:5
 loop-less : tie.Need-loop-less Inv-loop μ-loop
 loop-less c = search needs
 
--- src/members.rt:135:5
 loop-again : tie.Need-loop-again Inv-loop μ-loop
 unfolding testRules
 loop-again c =
@@ -64,7 +52,6 @@ loop-again c =
     let a = w .before .before .args in
     (search needs, scan-more (taskTestRules (a .order) (a .build)) (w .loop .i) (w .loop .inv .1) (done-hold 0 (taskTestRules (a .order) (a .build) (w .loop .i)) (sym (judged .judge-test .ensures) ∙ c .enum-told .given .1)))
 
--- src/members.rt:129:1
 returns-2 : tie.Need-returns-2 Inv-loop μ-loop
 returns-2 c =
     let a = c .before .before .before .args in

@@ -1,5 +1,5 @@
 use Rattle.inspect.specs.Rules.{wideEnough, widthRules}
-use Rattle.inspect.specs.Kinds.{Order, TaskPartition}
+use Rattle.inspect.specs.Kinds.{TaskPartition}
 use Rattle.model.proofs.Scan.{each-none, each-more, each-stop}
 use Rattle.model.proofs.Rules.{hold-done}
 use Rattle.model.specs.Rules.{allHold}
@@ -10,9 +10,6 @@ use Prim.Native.Nat.{_≤_, _-_}
 use borrow.Author.Needs.{needs}
 use Rattle.inspect.proofs.members.judge_widths.Statement.{statement}
 use Rattle.inspect.proofs.members.judge_widths.Tie as tie
-use Rattle.inspect.proofs.members.judge_widths.Reads as reads
-use Rattle.inspect.proofs.members.judge_widths.Lts as lts
-use Rattle.inspect.proofs.members.wide_enough.Reads as wide-enough-reads
 
 abbrev Inv-loop : tie.InvT-loop
 Inv-loop order build tasks i₀ i = (i ≤ tasks) × allHold (widthRules order build i)
@@ -20,26 +17,21 @@ Inv-loop order build tasks i₀ i = (i ≤ tasks) × allHold (widthRules order b
 abbrev μ-loop : tie.MeasureT-loop
 μ-loop order build tasks i₀ i = tasks - i
 
--- src/members.rt:35:17
 cast-tasks : tie.Need-cast-tasks Inv-loop μ-loop
 cast-tasks c = search needs
 
--- src/members.rt:37:5
 loop-holds : tie.Need-loop-holds Inv-loop μ-loop
 unfolding widthRules
 loop-holds c =
     let a = c .before .args in
     (search needs, each-none (wideEnough (a .order) (a .build)) (λ k. TaskPartition k))
 
--- src/members.rt:38:13
 wide-enough-requires : tie.Need-wide-enough-requires Inv-loop μ-loop
 wide-enough-requires c κs = search needs
 
--- src/members.rt:39:59
 cast-t7 : tie.Need-cast-t7 Inv-loop μ-loop
 cast-t7 c = search needs
 
--- src/members.rt:39:13
 returns : tie.Need-returns Inv-loop μ-loop
 unfolding widthRules
 returns c =
@@ -47,15 +39,12 @@ returns c =
     let a = w .before .before .args in
     sym (each-stop (wideEnough (a .order) (a .build)) (λ k. TaskPartition k) 0 (a .order .tasks) (w .loop .i) (c .before .before .loop-test .taken) (w .loop .inv .1) (sym (c .before .wide-enough .ensures) ∙ not-true _ (c .if1 .taken)))
 
--- src/members.rt:41:9
 add-i : tie.Need-add-i Inv-loop μ-loop
 add-i c = search needs
 
--- src/members.rt:37:5
 loop-less : tie.Need-loop-less Inv-loop μ-loop
 loop-less c = search needs
 
--- src/members.rt:37:5
 loop-again : tie.Need-loop-again Inv-loop μ-loop
 unfolding widthRules
 loop-again c =
@@ -63,7 +52,6 @@ loop-again c =
     let a = w .before .before .args in
     (search needs, each-more (wideEnough (a .order) (a .build)) (λ k. TaskPartition k) (w .loop .i) (w .loop .inv .1) (sym (c .before .wide-enough .ensures) ∙ not-false _ (c .if1 .left)))
 
--- src/members.rt:31:1
 returns-2 : tie.Need-returns-2 Inv-loop μ-loop
 returns-2 c =
     let a = c .before .before .before .args in
