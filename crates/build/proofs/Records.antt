@@ -1,18 +1,16 @@
 -- Laws of the build's records: the bytes of each as the code's number, their lengths, one more, and all together.
-use mathlib.Core.Path.{_≡_, refl, sym, ap, _∙_}
-use mathlib.Core.List.{List, [], _∷_, _++_, append-assoc}
+use mathlib.Core.Path.{_≡_, ap}
+use mathlib.Core.List.{List, [], _++_}
 use Prim.Native.Nat.{ℕ, _+_, _*_}
 use native.Mathlib.Omega.{arith}
 use lib.ListN.{length, length-append}
-use Rattle.laws.specs.Joined.{joined}
 use Rattle.laws.proofs.Joined.{joined-none, joined-more, length-joined}
 use Rattle.bits.specs.Packed.{packed, widthOf, numberOf, bytesOf}
 use Rattle.bits.proofs.Packed.{length-bytes}
 use Rattle.model.specs.declared.build.Partition.{Partition}
 use Rattle.model.specs.declared.build.Member.{Member}
 use Rattle.model.specs.declared.build.Build.{Build}
-use Rattle.model.specs.Limits.{buildLength}
-use Rattle.build.specs.Build.{placeOf, memberOf, buildHeaderSlots, partitionSlots, memberSlots, partitionBytes, memberBytes, recordBytes, buildBytes}
+use Rattle.build.specs.Build.{placeOf, memberOf, buildHeaderSlots, partitionSlots, memberSlots, partitionBytes, memberBytes, recordBytes}
 
 pub header-number : (processors tasks partitions : ℕ) →
     packed 3 (((128 + processors) * 64 + tasks) * 128 + partitions) ≡ bytesOf (buildHeaderSlots processors tasks partitions)

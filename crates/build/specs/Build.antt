@@ -1,6 +1,5 @@
 -- "Bits on the wire", the build: its fields, its bytes, and the build that stands in some bytes.
 use Prim.Native.Nat.{ℕ, _+_, _*_, _≤_, _<_}
-use mathlib.Core.Path.{_≡_}
 use mathlib.Core.List.{List, [], _∷_, _++_}
 use lib.ListN.{getD}
 use Rattle.laws.specs.Joined.{joined, filled}

@@ -1,16 +1,14 @@
 -- The check answers as specs/Claims.antt says.
 use mathlib.Core.Path.{_≡_, refl, sym, ap, _∙_}
-use mathlib.Core.List.{List, [], _∷_, _++_}
-use mathlib.Core.Logic.{_↔_}
-use Prim.Native.Nat.{ℕ, _≤_, _<_}
+use mathlib.Core.List.{List, _++_}
+use Prim.Native.Nat.{ℕ, _<_}
 use lib.ListN.{length}
-use Rattle.laws.specs.Joined.{joined}
 use Rattle.laws.proofs.Filled.{length-filled, filled-past}
-use Rattle.model.specs.Limits.{mostTasks, mostProcessors, taskOf, zeroTask}
+use Rattle.model.specs.Limits.{mostTasks, taskOf, zeroTask}
 use Rattle.model.specs.Answer.{countOf}
-use Rattle.model.specs.Rules.{Rule, allHold, firstBroken, taskRules, rangeRules, TaskInRange, WithinLimits}
-use Rattle.model.specs.Stated.{causes, AllKept, FirstOffence, RightAnswer}
-use Rattle.model.proofs.Rules.{done-hold, hold-done, hold-front}
+use Rattle.model.specs.Rules.{taskRules, rangeRules, WithinLimits}
+use Rattle.model.specs.Stated.{causes, AllKept, RightAnswer}
+use Rattle.model.proofs.Rules.{done-hold, hold-done}
 use Rattle.model.proofs.Stated.{kept-append, kept-front, kept-rest, kept-at, kept-all, hold-kept, kept-hold, right-answer, answer-right}
 use Rattle.order.specs.Order.{headerOf, taskAt, orderAt, headerRules, spareRules, layoutRules, orderRules}
 use Rattle.build.specs.Build.{memberOf, buildHeaderOf, buildAt}
@@ -21,7 +19,7 @@ use Rattle.inspect.specs.Kinds.{Order, Build, Answer, Done, Refused, Ref
 use Rattle.inspect.specs.Rules.{partitionsOf, buildLayoutRules, partitionRules, widthRules, rankRules, testRules, verdictRules, recordRules, buildRules, checkRules, checkAnswer}
 use Rattle.inspect.specs.Meaning.{CheckSays}
 use Rattle.inspect.specs.Claims.{OrderRight, LayoutRight, RecordsRight, EveryRule, DoneExactly, RefusedExactly, OneAnswer, OnlyAnswer, CountsNothing, Accepted, DoneAccepts, AcceptedDone}
-use Rattle.inspect.proofs.Turn.{order-sound, order-in-turn, check-in-turn}
+use Rattle.inspect.proofs.Turn.{check-in-turn}
 use Rattle.inspect.proofs.Verdicts.{passing-worst, worst-passing, passing-starts, worst-one}
 
 module _ (order build : List ℕ) where

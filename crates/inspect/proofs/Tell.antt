@@ -11,11 +11,13 @@ use Rattle.laws.specs.Choice.{pick, within}
 use Rattle.laws.specs.Every.{every}
 use Rattle.laws.proofs.Choice.{both, within-true, true-within}
 use Rattle.laws.proofs.Every.{every-at, every-all}
-use Rattle.model.specs.Limits.{mostPartitions, taskOf}
+use Rattle.model.specs.Limits.{mostPartitions}
+use Rattle.model.specs.Rules.{allHold}
+use Rattle.build.specs.declared.read.BuildHeader.{BuildHeader}
 use Rattle.build.specs.Build.{placeOf, memberOf, buildHeaderOf, partitionSpareAt, memberSpareAt}
 use Rattle.inspect.specs.Kinds.{Order, Partition, Build}
-use Rattle.inspect.specs.Rules.{headerMatches, partitionSparesZero, taskSparesZero, sparesZero, overlaps, apartFromEarlier, partitionRight, wideEnough, rankRight}
-use Rattle.inspect.specs.Meaning.{InRange, HeaderMatches, SparesZero, Has, Overlap, PartitionRight, WideEnough, RankRight}
+use Rattle.inspect.specs.Rules.{headerMatches, partitionSparesZero, taskSparesZero, sparesZero, buildLayoutRules, overlaps, apartFromEarlier, partitionRight, wideEnough, rankRight}
+use Rattle.inspect.specs.Meaning.{InRange, HeaderMatches, SparesZero, Overlap, PartitionRight, WideEnough, RankRight}
 
 -- tests of numbers
 pub equal-tells : (a b : ℕ) → (eqb a b ≡ true) ↔ (a ≡ b)
@@ -37,8 +39,7 @@ clash e = absurd (subst T e tt)
 pub header-tells : (o : Order) (s : List ℕ) → (headerMatches o (buildHeaderOf s) ≡ true) ↔ HeaderMatches o s
 unfolding headerMatches
 header-tells o s =
-    let h = buildHeaderOf s in
-    (
+    let h = buildHeaderOf s in (
       λ e.
           let a = both (eqb (h .version) 1) _ e in
           let b = both (eqb (h .processors) (o .processors)) _ (a .1) in
@@ -55,8 +56,7 @@ spares-tell s =
     let p = buildHeaderOf s .partitions in
     let n = buildHeaderOf s .tasks in
     let place : ℕ → Bool = λ i. eqb (partitionSpareAt s i) 0 in
-    let task : ℕ → Bool = λ i. eqb (memberSpareAt s p i) 0 in
-    (
+    let task : ℕ → Bool = λ i. eqb (memberSpareAt s p i) 0 in (
       λ e.
           let h = both (every place p) (every task n) e in
           record { partition-spares = λ i l. eqb-true _ _ (every-at place p (h .0) i l); task-spares = λ i l. eqb-true _ _ (every-at task n (h .1) i l) },
@@ -66,21 +66,19 @@ spares-tell s =
 -- two partitions overlap exactly where the test says so
 pub overlap-tells : (a b : Partition) → (overlaps a b ≡ true) ↔ Overlap a b
 unfolding overlaps
-overlap-tells a b =
-    (
-      λ e.
-          let l : max (a .first) (b .first) < min (a .first + a .volume) (b .first + b .volume) = ltb-true _ _ e in
-          (max (a .first) (b .first), record { from = omega arith; upto = omega arith }, record { from = omega arith; upto = omega arith }),
-      λ shared. lt-ltb (max (a .first) (b .first)) (min (a .first + a .volume) (b .first + b .volume)) (omega (arith, shared .1 .from, shared .1 .upto, shared .2 .from, shared .2 .upto)),
-    )
+overlap-tells a b = (
+  λ e.
+      let l : max (a .first) (b .first) < min (a .first + a .volume) (b .first + b .volume) = ltb-true _ _ e in
+      (max (a .first) (b .first), record { from = omega arith; upto = omega arith }, record { from = omega arith; upto = omega arith }),
+  λ shared. lt-ltb (max (a .first) (b .first)) (min (a .first + a .volume) (b .first + b .volume)) (omega (arith, shared .1 .from, shared .1 .upto, shared .2 .from, shared .2 .upto)),
+)
 
 -- 24
 pub partition-tells : (processors : ℕ) (places : List Partition) (i : ℕ) → (partitionRight processors places i ≡ true) ↔ PartitionRight processors places i
 unfolding partitionRight apartFromEarlier
 partition-tells processors places i =
     let place = placeOf places i in
-    let apart : ℕ → Bool = λ j. not (overlaps (placeOf places j) place) in
-    (
+    let apart : ℕ → Bool = λ j. not (overlaps (placeOf places j) place) in (
       λ e.
           let a = both (leb 1 (place .volume)) _ e in
           let b = both (leb (place .first + place .volume) processors) (every apart i) (a .1) in
@@ -100,13 +98,26 @@ partition-tells processors places i =
 -- 25
 pub width-tells : (o : Order) (b : Build) (i : ℕ) → (wideEnough o b i ≡ true) ↔ WideEnough o b i
 unfolding wideEnough
-width-tells o b i =
-    (
-      λ e. let h = both (ltb (memberOf (b .members) i .partition) (b .partitions)) _ e in record { there = ltb-true _ _ (h .0); wide = leb-true _ _ (h .1) },
-      λ w. both-true _ _ (lt-ltb _ _ (w .there)) (le-leb _ _ (w .wide)),
-    )
+width-tells o b i = (
+  λ e. let h = both (ltb (memberOf (b .members) i .partition) (b .partitions)) _ e in record { there = ltb-true _ _ (h .0); wide = leb-true _ _ (h .1) },
+  λ w. both-true _ _ (lt-ltb _ _ (w .there)) (le-leb _ _ (w .wide)),
+)
 
 -- 26
 pub rank-tells : (o : Order) (b : Build) (i : ℕ) → (rankRight o b i ≡ true) ↔ RankRight o b i
 unfolding rankRight
 rank-tells o b i = equal-tells _ _
+
+-- the counts of a header that matches
+pub header-counts : (o : Order) (header : BuildHeader) → headerMatches o header ≡ true → (header .tasks ≡ o .tasks) × (header .partitions ≤ mostPartitions)
+unfolding headerMatches
+header-counts o header e =
+    let a = both (eqb (header .version) 1) _ e in
+    let b = both (eqb (header .processors) (o .processors)) _ (a .1) in
+    let c = both (eqb (header .tasks) (o .tasks)) _ (b .1) in
+    (eqb-true _ _ (c .0), within-true 1 mostPartitions (header .partitions) (c .1) .1)
+
+-- the same, where 20 to 23 hold
+pub layout-counts : (o : Order) (s : List ℕ) (header : BuildHeader) → allHold (buildLayoutRules o s header) → (header .tasks ≡ o .tasks) × (header .partitions ≤ mostPartitions)
+unfolding buildLayoutRules allHold
+layout-counts o s header all = header-counts o header (all .1 .0)

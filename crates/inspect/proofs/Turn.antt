@@ -1,13 +1,11 @@
 -- The check's rules in turn: each one's test tells whether what it says holds, where every rule before it does.
-use mathlib.Core.Path.{_≡_, refl, sym, ap, _∙_}
-use mathlib.Core.List.{List, [], _∷_, _++_}
-use mathlib.Core.Logic.{_↔_}
-use Prim.Native.Nat.{ℕ, _≤_, _<_}
+use mathlib.Core.Path.{refl}
+use mathlib.Core.List.{List, [], _∷_}
+use Prim.Native.Nat.{ℕ, _<_}
 use lib.ListN.{length}
 use lib.Dec.{eqb}
-use Rattle.laws.specs.Joined.{joined}
 use Rattle.model.specs.Limits.{mostTasks, mostProcessors, mostPeriod, orderLength, buildLength, taskOf}
-use Rattle.model.specs.Rules.{Rule, rule, allHold, taskRules, rangeRules}
+use Rattle.model.specs.Rules.{rule, allHold, taskRules, rangeRules}
 use Rattle.model.specs.Stated.{TestsTell}
 use Rattle.model.proofs.Rules.{hold-front, hold-rest}
 use Rattle.model.proofs.Stated.{tell-append, tell-all, tell-one}
@@ -44,8 +42,7 @@ module _ (order build : List ℕ) where
   header-in-turn : TestsTell Says (headerRules (length order) (headerOf order))
   unfolding TestsTell CheckSays headerRules
   header-in-turn =
-      let h = headerOf order in
-      (
+      let h = headerOf order in (
         least-tells 3 (length order),
         λ _. (
           equal-tells (h .version) 1,
@@ -63,8 +60,7 @@ module _ (order build : List ℕ) where
   task-in-turn : (i : ℕ) → TestsTell Says (taskRules (o .processors) (taskOf (o .table) i) i)
   unfolding TestsTell CheckSays
   task-in-turn i =
-      let t = taskOf (o .table) i in
-      (
+      let t = taskOf (o .table) i in (
         range-tells 1 (o .processors) (t .width),
         λ _. (
           range-tells 1 mostPeriod (t .period),
@@ -82,8 +78,7 @@ module _ (order build : List ℕ) where
   layout-in-turn : TestsTell Says (buildLayoutRules o build (buildHeaderOf build))
   unfolding TestsTell CheckSays buildLayoutRules
   layout-in-turn =
-      let h = buildHeaderOf build in
-      (
+      let h = buildHeaderOf build in (
         least-tells 3 (length build),
         λ _. (header-tells o build, λ _. (equal-tells (length build) (buildLength (h .partitions) (h .tasks)), λ _. (spares-tell build, λ _. tt))),
       )
@@ -105,8 +100,7 @@ module _ (order build : List ℕ) where
   unfolding TestsTell CheckSays verdictRules
   verdict-in-turn sound i mine =
       let found = verdict (o .table) (partitionsOf b) (o .tasks) i in
-      let recorded = memberOf (b .members) i .response in
-      (
+      let recorded = memberOf (b .members) i .response in (
         window-tells (o .table) (partitionsOf b) (o .tasks) i sound mine found refl,
         λ w. (
           starts-tell (o .table) (partitionsOf b) (o .tasks) i sound mine found refl w,

@@ -1,22 +1,20 @@
 -- What the tests of 27 to 30 tell of a member, each where those before it hold.
-use mathlib.Core.Path.{_≡_, refl, sym, ap, _∙_, subst}
-use mathlib.Core.Bool.{Bool, true, false}
-use mathlib.Core.List.{List, [], _∷_}
+use mathlib.Core.Path.{_≡_, refl, sym, _∙_, subst}
+use mathlib.Core.Bool.{true, false}
+use mathlib.Core.List.{List}
 use mathlib.Core.Logic.{_↔_}
 use Prim.Native.Nat.{ℕ, _*_, _≤_, _<_}
 use native.Mathlib.Omega.{arith}
-use lib.Dec.{eqb, T}
+use lib.Dec.{T}
 use borrow.Author.Tests.{eq-eqb, eqb-true}
 use Rattle.demand.specs.Priority.{deadlineOf}
 use Rattle.demand.specs.Releases.{periodOf}
 use Rattle.demand.specs.Test.{Sound, windowDemand, startDemand, verdict}
-use Rattle.demand.specs.Meaning.{IsWindow, IsStart, IsResponse, IsPassing, IsLate, VerdictMeans}
+use Rattle.demand.specs.Meaning.{IsResponse, IsPassing, VerdictMeans}
 use Rattle.demand.proofs.Meaning.{every-verdict-means, no-start-never}
 use Rattle.demand.proofs.FirstMet.{met-one}
-use Rattle.model.specs.Rules.{Rule, rule}
-use Rattle.model.specs.Stated.{TestsTell}
-use Rattle.inspect.specs.Kinds.{Task, Refusal, Window, Start, Late, Response, Verdict, Passes, NoWindow, NoStart, TooLate}
-use Rattle.inspect.specs.Rules.{windowThere, startsThere, inTime, responseRight, verdictRules}
+use Rattle.inspect.specs.Kinds.{Task, Verdict, Passes, NoWindow, NoStart, TooLate}
+use Rattle.inspect.specs.Rules.{windowThere, startsThere, inTime, responseRight}
 use Rattle.inspect.specs.Meaning.{WindowThere, StartsThere, IsWorst, InTime}
 
 clash : {A : Type 0} → false ≡ true → A

@@ -9,7 +9,7 @@ use Rattle.build.specs.Build.{placeOf, memberOf, buildHeaderOf, partitionSpareA
 use Rattle.demand.specs.Priority.{deadlineOf, rank}
 use Rattle.demand.specs.Releases.{periodOf}
 use Rattle.demand.specs.Meaning.{IsWindow, IsStart, IsResponse}
-use Rattle.inspect.specs.Kinds.{Task, Order, Partition, Member, Build, Refusal, OrderShort, OrderVersion, Processors, Tasks, OrderLength, HeaderSpare, TaskSpare, Width, Period, Deadline, RunTime, FirstFit, Output, Columns, BuildShort, BuildHeader, BuildLength, BuildSpare, PartitionPlace, TaskPartition, Rank, Window, Start, Late, Response, ScriptLength, RecordSpare, RecordTask, RecordOrder, JobLength, ReleaseGap, FinishPlaces}
+use Rattle.inspect.specs.Kinds.{Task, Order, Partition, Build, Refusal, OrderShort, OrderVersion, Processors, Tasks, OrderLength, HeaderSpare, TaskSpare, Width, Period, Deadline, RunTime, FirstFit, Output, Columns, BuildShort, BuildHeader, BuildLength, BuildSpare, PartitionPlace, TaskPartition, Rank, Window, Start, Late, Response, ScriptLength, RecordSpare, RecordTask, RecordOrder, JobLength, ReleaseGap, FinishPlaces}
 use Rattle.inspect.specs.Rules.{partitionsOf}
 
 -- "x out of range": x is from least to most

@@ -1,5 +1,5 @@
 -- "The check: the order's 1 to 10, then 20 to 23 in turn, all partitions for 24, all tasks for 25, all for 26, then task by task 27 to 30."
-use Prim.Native.Nat.{ℕ, _+_, _≤_, _<_, min, max}
+use Prim.Native.Nat.{ℕ, _+_, min, max}
 use mathlib.Core.Path.{_≡_}
 use mathlib.Core.Bool.{Bool, true, false, not}
 use mathlib.Core.List.{List, [], _∷_, _++_}
@@ -15,7 +15,7 @@ use Rattle.build.specs.declared.read.BuildHeader.{BuildHeader}
 use Rattle.build.specs.Build.{placeOf, memberOf, buildHeaderOf, partitionSpareAt, memberSpareAt, buildAt}
 use Rattle.demand.specs.Priority.{rank}
 use Rattle.demand.specs.Test.{verdict}
-use Rattle.inspect.specs.Kinds.{Order, Partition, Member, Build, Answer, BuildShort, BuildHeader as HeaderRefusal, BuildLength, BuildSpare, PartitionPlace, TaskPartition, Rank, Window, Start, Late, Response, Verdict, Passes, NoWindow, NoStart, TooLate}
+use Rattle.inspect.specs.Kinds.{Order, Partition, Build, Answer, BuildShort, BuildHeader as HeaderRefusal, BuildLength, BuildSpare, PartitionPlace, TaskPartition, Rank, Window, Start, Late, Response, Verdict, Passes, NoWindow, NoStart, TooLate}
 
 -- the partition number of each task, as the build records it
 unfoldable pub partitionsOf : Build → List ℕ

@@ -60,12 +60,7 @@ pub fn partitions_of(build: Build) -> [u32; Order::MOST_TASKS]
     numbers
 }
 
-fn rank_right(
-    order: Order,
-    build: Build,
-    numbers: [u32; Order::MOST_TASKS],
-    task: usize,
-) -> bool
+fn rank_right(order: Order, build: Build, numbers: [u32; Order::MOST_TASKS], task: usize) -> bool
     requires { ⌜ (order .tasks ≤ 32) × (task < order .tasks) × (numbers ≡ partitionsOf build) ⌝ }
     ensures { λ r. ⌜ r ≡ rankRight order build task ⌝ }
 {
@@ -109,12 +104,7 @@ fn judge_verdict(found: Verdict, recorded: u32, task: u16) -> Answer
 }
 
 // 27 to 30 of one task.
-fn judge_test(
-    order: Order,
-    build: Build,
-    numbers: [u32; Order::MOST_TASKS],
-    task: usize,
-) -> Answer
+fn judge_test(order: Order, build: Build, numbers: [u32; Order::MOST_TASKS], task: usize) -> Answer
     requires { ⌜ Sound (order .table) (order .tasks) × (task < order .tasks) × (numbers ≡ partitionsOf build) ⌝ }
     ensures { λ r. ⌜ r ≡ firstBroken 0 (taskTestRules order build task) ⌝ }
 {

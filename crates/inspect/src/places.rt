@@ -46,7 +46,11 @@ fn apart_from_earlier(places: [Partition; Build::MOST_PARTITIONS], partition: us
     true
 }
 
-fn partition_right(processors: u32, places: [Partition; Build::MOST_PARTITIONS], partition: usize) -> bool
+fn partition_right(
+    processors: u32,
+    places: [Partition; Build::MOST_PARTITIONS],
+    partition: usize,
+) -> bool
     requires { ⌜ (partition < 32) × ((j : ℕ) → j ≤ partition → PartitionFits (placeOf places j)) ⌝ }
     ensures { λ r. ⌜ r ≡ partitionRight processors places partition ⌝ }
 {

@@ -1,33 +1,35 @@
+use Rattle.inspect.specs.Rules.{headerMatches}
+use borrow.Author.Tests.{eq-eqb, ne-eqb}
 use borrow.Author.Needs.{needs}
 use Rattle.inspect.proofs.layout.header_matches.Statement.{statement}
 use Rattle.inspect.proofs.layout.header_matches.Tie as tie
-use Rattle.inspect.proofs.layout.header_matches.Reads as reads
-use Rattle.inspect.proofs.layout.header_matches.Lts as lts
-use Rattle.model.proofs.within.Reads as within-reads
 
--- src/layout.rt:17:9
 returns : tie.Need-returns
-returns c = search needs
+unfolding headerMatches
+returns c = simp (ne-eqb _ _ (c .if1 .taken))
 
--- src/layout.rt:20:9
 returns-2 : tie.Need-returns-2
-returns-2 c = search needs
+unfolding headerMatches
+returns-2 c = simp (eq-eqb _ _ (c .before .before .before .if1 .left), ne-eqb _ _ (c .if2 .taken))
 
--- src/layout.rt:23:9
 returns-3 : tie.Need-returns-3
-returns-3 c = search needs
+unfolding headerMatches
+returns-3 c =
+    let processors = c .before .before .before in
+    simp (eq-eqb _ _ (processors .before .before .before .if1 .left), eq-eqb _ _ (processors .if2 .left), ne-eqb _ _ (c .if3 .taken))
 
--- src/layout.rt:25:22
 cast-within : tie.Need-cast-within
 cast-within c = search needs
 
--- src/layout.rt:25:5
 within-requires : tie.Need-within-requires
 within-requires c κs = search needs
 
--- src/layout.rt:13:1
 returns-4 : tie.Need-returns-4
-returns-4 c = search needs
+unfolding headerMatches
+returns-4 c =
+    let tasks = c .before in
+    let processors = tasks .before .before .before in
+    rw (eq-eqb _ _ (processors .before .before .before .if1 .left), eq-eqb _ _ (processors .if2 .left), eq-eqb _ _ (tasks .if3 .left)) (c .within .ensures)
 
 pub header-matches-spec : {M : Type 1} → statement M
 header-matches-spec =

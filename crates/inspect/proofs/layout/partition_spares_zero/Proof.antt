@@ -1,43 +1,57 @@
+use Rattle.inspect.specs.Rules.{partitionSparesZero}
+use Rattle.build.specs.Build.{partitionSpareAt}
+use Rattle.laws.proofs.Every.{every-none, every-more, every-stop}
+use borrow.Author.Tests.{eq-eqb, ne-eqb}
+use lib.Dec.{eqb}
+use mathlib.Core.Bool.{true}
+use denote.Ref.{now}
+use native.Mathlib.Nat.{le-antisymm}
+use mathlib.Core.Path.{_≡_, sym, _∙_}
+use Prim.Native.Nat.{_≤_, _-_}
 use borrow.Author.Needs.{needs}
 use Rattle.inspect.proofs.layout.partition_spares_zero.Statement.{statement}
 use Rattle.inspect.proofs.layout.partition_spares_zero.Tie as tie
-use Rattle.inspect.proofs.layout.partition_spares_zero.Reads as reads
-use Rattle.inspect.proofs.layout.partition_spares_zero.Lts as lts
-use Rattle.build.proofs.partition_spare.Reads as partition-spare-reads
 
 abbrev Inv-loop : tie.InvT-loop
-Inv-loop build partitions i₀ i = ?
+Inv-loop build partitions i₀ i = (i ≤ partitions) × (partitionSparesZero build i ≡ true)
 
 abbrev μ-loop : tie.MeasureT-loop
-μ-loop build partitions i₀ i = ?
+μ-loop build partitions i₀ i = partitions - i
 
--- src/layout.rt:33:5
 loop-holds : tie.Need-loop-holds Inv-loop μ-loop
-loop-holds c = search needs
+unfolding partitionSparesZero
+loop-holds c = (search needs, every-none _)
 
--- src/layout.rt:34:12
 partition-spare-requires : tie.Need-partition-spare-requires Inv-loop μ-loop
 partition-spare-requires c κs = search needs
 
--- src/layout.rt:35:13
 returns : tie.Need-returns Inv-loop μ-loop
-returns c = search needs
+unfolding partitionSparesZero
+returns c =
+    let w = c .before .before .before in
+    let a = w .before .before .args in
+    let s = now (a .build) in
+    sym (every-stop (λ k. eqb (partitionSpareAt s k) 0) (a .partitions) (w .loop .i) (c .before .before .loop-test .taken) (ne-eqb _ 0 (λ e. c .if1 .taken (c .before .partition-spare .ensures ∙ e))))
 
--- src/layout.rt:37:9
 add-i : tie.Need-add-i Inv-loop μ-loop
 add-i c = search needs
 
--- src/layout.rt:33:5
 loop-less : tie.Need-loop-less Inv-loop μ-loop
 loop-less c = search needs
 
--- src/layout.rt:33:5
 loop-again : tie.Need-loop-again Inv-loop μ-loop
-loop-again c = search needs
+unfolding partitionSparesZero
+loop-again c =
+    let w = c .before .before .before in
+    let a = w .before .before .args in
+    let s = now (a .build) in
+    (search needs, every-more (λ k. eqb (partitionSpareAt s k) 0) (w .loop .i) (w .loop .inv .1) (eq-eqb _ 0 (sym (c .before .partition-spare .ensures) ∙ c .if1 .left)))
 
--- src/layout.rt:28:1
 returns-2 : tie.Need-returns-2 Inv-loop μ-loop
-returns-2 c = search needs
+returns-2 c =
+    let a = c .before .before .before .args in
+    let all : c .before .loop .i ≡ a .partitions = le-antisymm (c .before .loop .inv .0) (c .loop-test .left) in
+    sym (rw all at (c .before .loop .inv .1))
 
 pub partition-spares-zero-spec : {M : Type 1} → statement M
 partition-spares-zero-spec =

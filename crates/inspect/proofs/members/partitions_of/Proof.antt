@@ -1,54 +1,57 @@
+use Rattle.inspect.specs.Rules.{partitionsOf}
+use Rattle.build.specs.Build.{memberOf}
+use Rattle.laws.proofs.Joined.{filled-none, filled-more}
+use Rattle.laws.specs.Joined.{filled}
+use native.Mathlib.Omega.{arith}
+use native.Mathlib.Nat.{le-antisymm}
+use mathlib.Core.Path.{_≡_, ap, _∙_}
+use Prim.Native.Nat.{ℕ, _≤_, _-_}
 use borrow.Author.Needs.{needs}
 use Rattle.inspect.proofs.members.partitions_of.Statement.{statement}
 use Rattle.inspect.proofs.members.partitions_of.Tie as tie
-use Rattle.inspect.proofs.members.partitions_of.Reads as reads
-use Rattle.inspect.proofs.members.partitions_of.Lts as lts
 
 abbrev Inv-loop : tie.InvT-loop
-Inv-loop members tasks numbers₀ i₀ numbers i = ?
+Inv-loop members tasks numbers₀ i₀ numbers i = (i ≤ tasks) × (numbers ≡ filled (λ k. memberOf members k .partition) 0 32 i)
 
 abbrev μ-loop : tie.MeasureT-loop
-μ-loop members tasks numbers₀ i₀ numbers i = ?
+μ-loop members tasks numbers₀ i₀ numbers i = tasks - i
 
--- src/members.rt:52:17
 cast-tasks : tie.Need-cast-tasks Inv-loop μ-loop
 cast-tasks c = search needs
 
--- src/members.rt:55:5
 loop-holds : tie.Need-loop-holds Inv-loop μ-loop
-loop-holds c = search needs
+loop-holds c = (search needs, filled-none (λ k. memberOf (c .before .before .args .build .members) k .partition) 0 32)
 
--- src/members.rt:56:22
 mul-member : tie.Need-mul-member Inv-loop μ-loop
 mul-member c = search needs
 
--- src/members.rt:56:22
 array-copy-out-member : tie.Need-array-copy-out-member Inv-loop μ-loop
 array-copy-out-member c = search needs
 
--- src/members.rt:57:9
 mul-numbers : tie.Need-mul-numbers Inv-loop μ-loop
 mul-numbers c = search needs
 
--- src/members.rt:57:9
 array-write-numbers : tie.Need-array-write-numbers Inv-loop μ-loop
 array-write-numbers c = search needs
 
--- src/members.rt:58:9
 add-i : tie.Need-add-i Inv-loop μ-loop
 add-i c = search needs
 
--- src/members.rt:55:5
 loop-less : tie.Need-loop-less Inv-loop μ-loop
 loop-less c = search needs
 
--- src/members.rt:55:5
 loop-again : tie.Need-loop-again Inv-loop μ-loop
-loop-again c = search needs
+loop-again c =
+    let w = c .before .before in
+    let members = w .before .before .before .args .build .members in
+    (search needs, cc (filled-more (λ k. memberOf members k .partition) 0 32 (w .loop .i) (omega arith)))
 
--- src/members.rt:47:1
 returns : tie.Need-returns Inv-loop μ-loop
-returns c = search needs
+unfolding partitionsOf
+returns c =
+    let b = c .before .before .before .before .args .build in
+    let all : c .before .loop .i ≡ b .tasks = le-antisymm (c .before .loop .inv .0) (c .loop-test .left) in
+    c .before .loop .inv .1 ∙ ap (λ (n : ℕ). filled (λ k. memberOf (b .members) k .partition) 0 32 n) all
 
 pub partitions-of-spec : {M : Type 1} → statement M
 partitions-of-spec =

@@ -1,44 +1,37 @@
+use Rattle.inspect.specs.Rules.{wideEnough}
+use borrow.Author.Tests.{lt-ltb, le-ltb}
 use borrow.Author.Needs.{needs}
 use Rattle.inspect.proofs.members.wide_enough.Statement.{statement}
 use Rattle.inspect.proofs.members.wide_enough.Tie as tie
-use Rattle.inspect.proofs.members.wide_enough.Reads as reads
-use Rattle.inspect.proofs.members.wide_enough.Lts as lts
 
--- src/members.rt:18:18
 mul-member : tie.Need-mul-member
 mul-member c = search needs
 
--- src/members.rt:18:18
 array-copy-out-member : tie.Need-array-copy-out-member
 array-copy-out-member c = search needs
 
--- src/members.rt:20:25
 cast-partition : tie.Need-cast-partition
 cast-partition c = search needs
 
--- src/members.rt:22:21
 mul-place : tie.Need-mul-place
 mul-place c = search needs
 
--- src/members.rt:22:21
 array-copy-out-place : tie.Need-array-copy-out-place
 array-copy-out-place c = search needs
 
--- src/members.rt:24:20
 mul-mine : tie.Need-mul-mine
 mul-mine c = search needs
 
--- src/members.rt:24:20
 array-copy-out-mine : tie.Need-array-copy-out-mine
 array-copy-out-mine c = search needs
 
--- src/members.rt:25:9
 returns : tie.Need-returns
-returns c = search needs
+unfolding wideEnough
+returns c = rw (lt-ltb _ _ (c .before .before .before .before .before .before .before .if1 .taken))
 
--- src/members.rt:13:1
 returns-2 : tie.Need-returns-2
-returns-2 c = search needs
+unfolding wideEnough
+returns-2 c = rw (le-ltb _ _ (c .if1 .left))
 
 pub wide-enough-spec : {M : Type 1} → statement M
 wide-enough-spec =
