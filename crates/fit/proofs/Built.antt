@@ -8,7 +8,6 @@ use Rattle.laws.proofs.Filled.{getD-filled, getD-filled-past}
 use Rattle.model.specs.Limits.{mostTasks, zeroMember, emptyBuild}
 use Rattle.model.specs.Rules.{WithinLimits}
 use Rattle.demand.specs.Priority.{rank}
-use Rattle.demand.specs.Test.{verdict}
 use Rattle.fit.specs.Kinds.{Task, Order, Member, Build, Answer, Done, Refused, Refusal, FirstFit, Passes, Placing, Outcome, Fitted}
 use Rattle.fit.specs.Turns.{partitionOf}
 use Rattle.fit.specs.Steps.{goingOn, refusing, firstFit}
@@ -33,6 +32,16 @@ module _ (table : List Task) (n M : ℕ) where
   pub fitted-refused : (s : Placing) (i : ℕ) → firstFit table n M ≡ refusing s i → fitted table n M ≡ record { answer = Refused (FirstFit i); build = emptyBuild }
   unfolding fitted recorded
   fitted-refused s i e = ap (recorded table n M) e
+
+  -- by the answer of the steps
+  module _ (o : Outcome) (is : o ≡ firstFit table n M) where
+    pub recorded-refused : (cause : Refusal) → o .answer ≡ Refused cause → record { answer = Refused cause; build = emptyBuild } ≡ fitted table n M
+    unfolding fitted recorded
+    recorded-refused cause e = ap (λ (a : Answer). fittedBy a (buildOf table n M (o .placing))) (sym e) ∙ ap (recorded table n M) is
+
+    pub recorded-done : (count : ℕ) → o .answer ≡ Done count → record { answer = Done 0; build = buildOf table n M (o .placing) } ≡ fitted table n M
+    unfolding fitted recorded
+    recorded-done count e = ap (λ (a : Answer). fittedBy a (buildOf table n M (o .placing))) (sym e) ∙ ap (recorded table n M) is
 
 done-not-refused : {A : Type 0} (a b : Build) (count : ℕ) (cause : Refusal) →
     _≡_ {A = Fitted} (record { answer = Done count; build = a }) (record { answer = Refused cause; build = b }) → A

@@ -1,6 +1,6 @@
 -- What first fit's turns, placing, refusal and build say, in the document's words: claims, proved in proofs/Claims.antt.
 use mathlib.Core.Path.{_≡_}
-use mathlib.Core.Bool.{Bool, true, false}
+use mathlib.Core.Bool.{true, false}
 use mathlib.Core.List.{List}
 use mathlib.Core.Logic.{_↔_, _⊎_}
 use Prim.Native.Nat.{ℕ, _+_, _≤_, _<_}
@@ -9,9 +9,9 @@ use Rattle.laws.specs.Sums.{sum}
 use Rattle.model.specs.Limits.{zeroPartition, zeroMember, emptyBuild}
 use Rattle.model.specs.Rules.{WithinLimits}
 use Rattle.demand.specs.Priority.{inPartition, rank}
-use Rattle.demand.specs.Releases.{periodOf, costOf}
-use Rattle.demand.specs.Test.{Sound, verdict}
-use Rattle.fit.specs.Kinds.{Task, Order, Partition, Member, Build, Done, Refused, Refusal, FirstFit, At, Nothing, Passes, Placing, Fitted}
+use Rattle.demand.specs.Releases.{periodOf}
+use Rattle.demand.specs.Test.{verdict}
+use Rattle.fit.specs.Kinds.{Task, Order, Partition, Member, Build, Done, Refused, Refusal, FirstFit, At, Nothing, Passes, Placing}
 use Rattle.fit.specs.Turns.{widthOf, partitionOf, isUnplaced, comesBefore, nextTask}
 use Rattle.fit.specs.Steps.{nothingPlaced, goingOn, refusing, accepts, steps, firstFit}
 use Rattle.fit.specs.Recorded.{fitted}

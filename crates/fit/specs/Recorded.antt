@@ -2,12 +2,11 @@
 use mathlib.Core.Path.{_≡_}
 use mathlib.Core.List.{List}
 use Prim.Native.Nat.{ℕ}
-use lib.ListN.{getD}
 use Rattle.laws.specs.Joined.{filled}
 use Rattle.model.specs.Limits.{mostTasks, zeroMember, emptyBuild}
 use Rattle.demand.specs.Priority.{rank}
 use Rattle.demand.specs.Test.{verdict}
-use Rattle.fit.specs.Kinds.{Task, Order, Member, Build, Answer, Done, Refused, Refusal, Verdict, Passes, NoWindow, NoStart, Late, Placing, Outcome, Fitted}
+use Rattle.fit.specs.Kinds.{Task, Order, Member, Build, Answer, Done, Refused, Verdict, Passes, NoWindow, NoStart, Late, Placing, Outcome, Fitted}
 use Rattle.fit.specs.Turns.{partitionOf}
 use Rattle.fit.specs.Steps.{firstFit}
 

@@ -10,7 +10,7 @@ use Rattle.model.specs.Limits.{mostTasks, mostPartitions, zeroPartition}
 use Rattle.search.specs.Smallest.{firstOf}
 use Rattle.demand.specs.Priority.{inPartition}
 use Rattle.demand.specs.Test.{verdict, doesPass}
-use Rattle.fit.specs.Kinds.{Task, Order, Answer, Done, Refused, FirstFit, Found, At, Nothing, Placing, Outcome}
+use Rattle.fit.specs.Kinds.{Task, Done, Refused, FirstFit, Found, At, Nothing, Placing, Outcome}
 use Rattle.fit.specs.Turns.{widthOf, unplaced, nextTask}
 
 -- no task is placed, no partition is open
