@@ -1,16 +1,16 @@
 -- What the test answers of a task alone, and that it looks at members alone.
-use mathlib.Core.Path.{_≡_, refl, sym, ap, ap₂, _∙_, fun-ext}
-use mathlib.Core.Bool.{Bool, true, false, _&&_, _||_}
+use mathlib.Core.Path.{_≡_, refl, ap, ap₂, _∙_, fun-ext}
+use mathlib.Core.Bool.{Bool, false, _||_}
 use mathlib.Core.List.{List}
 use Prim.Native.Nat.{ℕ, zero, suc, _+_, _-_, _*_, _≤_, _<_}
 use native.Mathlib.Nat.{mul-le-mul-right, zero-mul, one-mul, suc-mul, le-of-eq}
 use native.Mathlib.Decide.{ℕ-discrete}
 use native.Mathlib.Omega.{arith}
 use lib.Dec.{eqb}
-use Rattle.laws.specs.Sums.{only, sum, largest}
+use Rattle.laws.specs.Sums.{only, largest}
 use Rattle.laws.proofs.Sums.{sum-same, sum-zero, largest-le}
-use Rattle.demand.specs.Kinds.{Task, Found, At, Passes}
-use Rattle.demand.specs.Priority.{deadlineOf, outranks, inPartition, higher, lower, rank}
+use Rattle.demand.specs.Kinds.{Task}
+use Rattle.demand.specs.Priority.{deadlineOf, inPartition, higher, lower, rank}
 use Rattle.demand.specs.Releases.{periodOf, costOf, releasesIn, releasesBy, jobs}
 use Rattle.demand.specs.Test.{Sound, firstMet, blocking, windowDemand, window, higherWork, startDemand, start, responseFrom, response, largestFound, worst, verdictBy, verdict}
 use Rattle.demand.specs.Meaning.{IsWindow, IsResponse, IsPassing, AlonePasses, OnlyMembersCount}

@@ -7,7 +7,7 @@ use lib.ListN.{getD}
 use Rattle.laws.specs.Sums.{sum}
 use Rattle.model.specs.Limits.{mostTasks}
 use Rattle.search.specs.Smallest.{smallest}
-use Rattle.demand.specs.Kinds.{Task, Found, Verdict}
+use Rattle.demand.specs.Kinds.{Task, Found, At, Verdict}
 use Rattle.demand.specs.Releases.{releasesBy}
 use Rattle.demand.specs.Test.{firstMet, higherWork, responseFrom, worstIn, verdictBy}
 
@@ -37,6 +37,12 @@ pub record Ranges (blocking period cost deadline : ℕ) : Type 0 where
   pub cost-most : cost ≤ deadline
   pub deadline-most : deadline ≤ period
   pub period-most : period ≤ 1_000_000
+
+-- the window has the length, and its first job starts in time
+pub record Opens (work : ℕ → ℕ) (blocking period cost deadline length first : ℕ) : Type 0 where
+  pub window : firstMet (windowOver work blocking period cost) 1 ≡ At length
+  pub start : firstMet (startOver work blocking) 0 ≡ At first
+  pub due : first + cost ≤ deadline
 
 -- the work by w of members that were packed into arrays of periods and costs
 unfoldable pub packedWork : List ℕ → List ℕ → ℕ → ℕ → ℕ

@@ -7,10 +7,8 @@ use model::Order;
 use model::Task;
 use search::Found;
 ghost use mathlib.Core.Path.{_≡_};
-ghost use Prim.Native.Nat.{_+_, _≤_};
-ghost use Rattle.search.specs.declared.Found.the-variants.{At};
-ghost use Rattle.demand.specs.Test.{firstMet, doesPass};
-ghost use Rattle.demand.specs.Packed.{Fits, Ranges, packedWork, startOver, windowOver, verdictOver};
+ghost use Rattle.demand.specs.Test.{doesPass};
+ghost use Rattle.demand.specs.Packed.{Fits, Ranges, Opens, packedWork, verdictOver};
 
 // The verdict in a window of the length, whose first job is in time: until a job is late.
 fn later_jobs(
@@ -24,7 +22,7 @@ fn later_jobs(
     length: u64,
     first: u64,
 ) -> Verdict
-    requires { ⌜ Fits (now periods) (now costs) count × Ranges blocking period cost deadline × (firstMet (windowOver (packedWork (now periods) (now costs) count) blocking period cost) 1 ≡ At length) × (firstMet (startOver (packedWork (now periods) (now costs) count) blocking) 0 ≡ At first) × (first + cost ≤ deadline) ⌝ }
+    requires { ⌜ Fits (now periods) (now costs) count × Ranges blocking period cost deadline × Opens (packedWork (now periods) (now costs) count) blocking period cost deadline length first ⌝ }
     ensures { λ r. ⌜ r ≡ verdictOver (packedWork (now (periods .entry)) (now (costs .entry)) count) blocking period cost deadline ⌝ }
 {
     let mut most: u64 = first + cost;

@@ -89,12 +89,16 @@ later-jobs-requires : tie.Need-later-jobs-requires
 later-jobs-requires c κs = let s = c .before .before .before .before .before .before .before .before .before .before in
     let a = s .args in
     let r = s .pre .1 in
-    let d = due (c .before .before .before .before .before .before) in (
+    let k = c .before .before .before .before .before .before in
+    let w = k .before .first .given .0 .0 in
+    let d = due k in (
       s .pre .0,
       r,
-      sym (c .before .before .before .window-from .ensures) ∙ c .before .length .given .1,
-      within-start (packedWork (a .periods .now) (a .costs .now) (a .count)) (a .blocking) (a .deadline - a .cost) (c .before .before .before .before .before .before .before .first .given .0 .0) (omega (arith, r .deadline-most, r .period-most)) (began (c .before .before .before .before .before .before)),
-      omega (arith, d, r .cost-most),
+      record {
+        window = sym (c .before .before .before .window-from .ensures) ∙ c .before .length .given .1;
+        start = within-start (packedWork (a .periods .now) (a .costs .now) (a .count)) (a .blocking) (a .deadline - a .cost) w (omega (arith, r .deadline-most, r .period-most)) (began k);
+        due = omega (arith, d, r .cost-most);
+      },
     )
 
 is-passing-requires : tie.Need-is-passing-requires

@@ -97,7 +97,15 @@ later-jobs-requires c κs = let k = c .before in
     let s = k .before .before .before .before .before .before .before .before .before .before in
     let a = s .args in
     let r = s .pre .1 in
-    (s .pre .0, r, closed k, (within-start (packedWork (a .periods .now) (a .costs .now) (a .count)) (a .blocking) horizon (k .before .before .before .before .before .first .given .0 .0) (omega arith) (began (k .before .before .before .before))), c .if2 .left)
+    let w = k .before .before .before .before .before .first .given .0 .0 in (
+      s .pre .0,
+      r,
+      record {
+        window = closed k;
+        start = within-start (packedWork (a .periods .now) (a .costs .now) (a .count)) (a .blocking) horizon w (omega arith) (began (k .before .before .before .before));
+        due = c .if2 .left;
+      },
+    )
 
 returns-5 : tie.Need-returns-5
 returns-5 c = search needs

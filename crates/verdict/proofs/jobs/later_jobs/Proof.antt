@@ -21,7 +21,7 @@ grows s = let a = s .args in packed-grows (a .periods .now) (a .costs .now) (a .
 
 -- the window ends by the horizon
 near : (s : tie.Start Inv-loop μ-loop) → s .args .length ≤ 1_000_000
-near s = let a = s .args in window-is (packedWork (a .periods .now) (a .costs .now) (a .count)) (grows s) (a .blocking) (a .period) (a .cost) (a .deadline) (s .pre .1) (a .length) (s .pre .2) .upto
+near s = let a = s .args in window-is (packedWork (a .periods .now) (a .costs .now) (a .count)) (grows s) (a .blocking) (a .period) (a .cost) (a .deadline) (s .pre .1) (a .length) (s .pre .2 .window) .upto
 
 -- no more is asked for a job's earlier ones than they have time
 less : (c : tie.In-loop Inv-loop μ-loop) → let a = c .before .before .args in c .before .loop .job * a .cost ≤ c .before .loop .job * a .period
@@ -35,7 +35,7 @@ add-from c = search needs
 
 loop-holds : tie.Need-loop-holds Inv-loop μ-loop
 loop-holds c = let a = c .args in
-    jobs-first (packedWork (a .periods .now) (a .costs .now) (a .count)) (grows c) (a .blocking) (a .period) (a .cost) (a .deadline) (c .pre .1) (a .length) (c .pre .2) (a .first) (c .pre .3) (c .pre .4)
+    jobs-first (packedWork (a .periods .now) (a .costs .now) (a .count)) (grows c) (a .blocking) (a .period) (a .cost) (a .deadline) (c .pre .1) (a .length) (c .pre .2 .window) (a .first) (c .pre .2 .start) (c .pre .2 .due)
 
 mul-loop : tie.Need-mul-loop Inv-loop μ-loop
 mul-loop c = omega (arith, c .loop .inv .near, near (c .before), c .before .pre .1 .period-most)
@@ -71,7 +71,7 @@ returns c = let s = c .before .before .before .before .before in
     let a = s .args in
     let l = c .before .before .before .before .loop in
     sym
-    (late-job (packedWork (a .periods .now) (a .costs .now) (a .count)) (grows s) (a .blocking) (a .period) (a .cost) (a .deadline) (s .pre .1) (a .length) (s .pre .2) (l .job)
+    (late-job (packedWork (a .periods .now) (a .costs .now) (a .count)) (grows s) (a .blocking) (a .period) (a .cost) (a .deadline) (s .pre .1) (a .length) (s .pre .2 .window) (l .job)
     (c .before .before .before .loop-test .taken)
     (within-none (packedWork (a .periods .now) (a .costs .now) (a .count)) (a .blocking + l .job * a .cost) (l .job * a .period + a .deadline - a .cost) (sym (c .before .before .start-from .ensures) ∙ c .enum-told .given .1)))
 
@@ -84,7 +84,7 @@ found c =
     let s = c .before .before .before .before .before .before in
     let a = s .args in
     let l = c .before .before .before .before .before .loop in
-    seen (packedWork (a .periods .now) (a .costs .now) (a .count)) (grows s) (a .blocking) (a .period) (a .cost) (a .deadline) (s .pre .1) (a .length) (s .pre .2) (l .job) (c .before .start .given .0 .0)
+    seen (packedWork (a .periods .now) (a .costs .now) (a .count)) (grows s) (a .blocking) (a .period) (a .cost) (a .deadline) (s .pre .1) (a .length) (s .pre .2 .window) (l .job) (c .before .start .given .0 .0)
     (c .before .before .before .before .loop-test .taken) (sym (c .before .before .before .start-from .ensures) ∙ c .before .start .given .1)
 
 add-larger : tie.Need-add-larger Inv-loop μ-loop
@@ -115,7 +115,7 @@ loop-again c = let k = c .before in
     let a = s .args in
     let l = k .before .before .before .before .before .loop in
     rw (c .larger .ensures)
-    (jobs-next (packedWork (a .periods .now) (a .costs .now) (a .count)) (grows s) (a .blocking) (a .period) (a .cost) (a .deadline) (s .pre .1) (a .length) (s .pre .2) (l .most) (l .from) (l .job) (k .before .start .given .0 .0)
+    (jobs-next (packedWork (a .periods .now) (a .costs .now) (a .count)) (grows s) (a .blocking) (a .period) (a .cost) (a .deadline) (s .pre .1) (a .length) (s .pre .2 .window) (l .most) (l .from) (l .job) (k .before .start .given .0 .0)
     (k .before .before .before .before .loop-test .taken) (l .inv) (found k))
 
 cast-t21 : tie.Need-cast-t21 Inv-loop μ-loop
@@ -126,7 +126,7 @@ returns-2 c = let s = c .before .before in
     let a = s .args in
     let l = c .before .loop in
     sym
-    (jobs-end (packedWork (a .periods .now) (a .costs .now) (a .count)) (grows s) (a .blocking) (a .period) (a .cost) (a .deadline) (s .pre .1) (a .length) (s .pre .2) (l .most) (l .from) (l .job) (l .inv) (c .loop-test .left))
+    (jobs-end (packedWork (a .periods .now) (a .costs .now) (a .count)) (grows s) (a .blocking) (a .period) (a .cost) (a .deadline) (s .pre .1) (a .length) (s .pre .2 .window) (l .most) (l .from) (l .job) (l .inv) (c .loop-test .left))
 
 pub later-jobs-spec : {M : Type 1} → statement M
 later-jobs-spec =
