@@ -10,7 +10,7 @@ use Rattle.model.specs.Rules.{WithinLimits}
 use Rattle.demand.specs.Priority.{rank}
 use Rattle.fit.specs.Kinds.{Task, Order, Member, Build, Answer, Done, Refused, Refusal, FirstFit, Passes, Placing, Outcome, Fitted}
 use Rattle.fit.specs.Turns.{partitionOf}
-use Rattle.fit.specs.Steps.{goingOn, refusing, firstFit}
+use Rattle.fit.specs.Steps.{goingOn, refusing, firstFit, firstFitOf}
 use Rattle.fit.specs.Recorded.{responseOf, memberOf, buildOf, fittedBy, recorded, fitted}
 use Rattle.fit.specs.Claims.{Placed, RefusedIn, memberAt, Built, FittedIsBuilt, FittedIsRefused}
 use Rattle.fit.proofs.Claims.{placed-all, verdict-agrees, rank-agrees, placed-agrees, places, refuses, one-of-two}
@@ -86,7 +86,7 @@ module _ (order : Order) (limits : WithinLimits order) where
 pub fitted-is-built : FittedIsBuilt
 fitted-is-built order build count partitions limits e agree = go (one-of-two order limits)
   where
-    go : ((s : Placing) × (firstFit (order .table) (order .tasks) (order .processors) ≡ goingOn s)) ⊎ ((s : Placing) × ((i : ℕ) × (firstFit (order .table) (order .tasks) (order .processors) ≡ refusing s i))) → Built order build partitions
+    go : ((s : Placing) × (firstFitOf order ≡ goingOn s)) ⊎ ((s : Placing) × ((i : ℕ) × (firstFitOf order ≡ refusing s i))) → Built order build partitions
     go (inl (s, f)) =
         let same : buildOf (order .table) (order .tasks) (order .processors) s ≡ build = ap (λ (x : Fitted). x .build) (sym (fitted-done (order .table) (order .tasks) (order .processors) s f) ∙ e) in
         subst (λ (x : Build). Built order x partitions) same
@@ -96,7 +96,7 @@ fitted-is-built order build count partitions limits e agree = go (one-of-two ord
 pub fitted-is-refused : FittedIsRefused
 fitted-is-refused order build cause limits e = go (one-of-two order limits)
   where
-    go : ((s : Placing) × (firstFit (order .table) (order .tasks) (order .processors) ≡ goingOn s)) ⊎ ((s : Placing) × ((i : ℕ) × (firstFit (order .table) (order .tasks) (order .processors) ≡ refusing s i))) →
+    go : ((s : Placing) × (firstFitOf order ≡ goingOn s)) ⊎ ((s : Placing) × ((i : ℕ) × (firstFitOf order ≡ refusing s i))) →
         (build ≡ emptyBuild) × ((s : Placing) × ((i : ℕ) × (cause ≡ FirstFit i) × RefusedIn (order .table) (order .tasks) (order .processors) s i))
     go (inl (s, f)) = done-not-refused (buildOf (order .table) (order .tasks) (order .processors) s) build 0 cause (sym (fitted-done (order .table) (order .tasks) (order .processors) s f) ∙ e)
     go (inr (s, (i, f))) =

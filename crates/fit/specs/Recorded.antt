@@ -43,6 +43,9 @@ recorded table n M o = fittedBy (o .answer) (buildOf table n M (o .placing))
 unfoldable pub fitted : List Task → ℕ → ℕ → Fitted
 fitted table n M = recorded table n M (firstFit table n M)
 
+abbrev pub fittedOf : Order → Fitted
+fittedOf order = fitted (order .table) (order .tasks) (order .processors)
+
 -- what first fit promises
 abbrev pub Fits : Order → Fitted → Type 0
-Fits order answer = answer ≡ fitted (order .table) (order .tasks) (order .processors)
+Fits order answer = answer ≡ fittedOf order

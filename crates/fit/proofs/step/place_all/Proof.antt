@@ -2,7 +2,7 @@ use Rattle.fit.proofs.Claims.{loop-start, loop-stop, loop-more, loop-do
 use Rattle.demand.proofs.Within.{limits-sound}
 use native.Mathlib.Omega.{arith}
 use Rattle.fit.proofs.Standing.{Stands}
-use Rattle.fit.specs.Steps.{steps, firstFit}
+use Rattle.fit.specs.Steps.{steps, firstFitOf}
 use Prim.Native.Nat.{_≤_, _-_}
 use mathlib.Core.Path.{_≡_, _∙_}
 use borrow.Author.Needs.{needs}
@@ -10,7 +10,7 @@ use Rattle.fit.proofs.step.place_all.Statement.{statement}
 use Rattle.fit.proofs.step.place_all.Tie as tie
 
 abbrev Inv-loop : tie.InvT-loop
-Inv-loop order table tasks placing₀ placed₀ placing placed = (placed ≤ order .tasks) × Stands (order .table) (order .tasks) (order .processors) placed placing × (steps (order .table) (order .tasks) (order .processors) (order .tasks - placed) placing ≡ firstFit (order .table) (order .tasks) (order .processors))
+Inv-loop order table tasks placing₀ placed₀ placing placed = (placed ≤ order .tasks) × Stands (order .table) (order .tasks) (order .processors) placed placing × (steps (order .table) (order .tasks) (order .processors) (order .tasks - placed) placing ≡ firstFitOf order)
 
 abbrev μ-loop : tie.MeasureT-loop
 μ-loop order table tasks placing₀ placed₀ placing placed = tasks - placed
