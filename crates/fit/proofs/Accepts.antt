@@ -4,13 +4,12 @@ use mathlib.Core.Bool.{Bool, true, false}
 use mathlib.Core.List.{List}
 use Prim.Native.Nat.{ℕ, _<_}
 use lib.ListN.{set}
-use Rattle.laws.specs.Every.{every}
 use Rattle.laws.proofs.Every.{clash, every-at, every-all, every-stop}
-use Rattle.search.specs.Smallest.{firstOf}
 use Rattle.search.proofs.First.{IsFirst, Firstly, first-found, first-missing, first-says}
 use Rattle.demand.specs.Priority.{inPartition}
 use Rattle.demand.specs.Test.{verdict, doesPass}
 use Rattle.fit.specs.Kinds.{Task, Found, At, Nothing, Verdict, Passes, NoWindow, NoStart, Late, Placing}
+use Rattle.fit.specs.Turns.{FoundBelow}
 use Rattle.fit.specs.Steps.{memberPasses, membersPass, accepts, lowestAccepting}
 use Rattle.fit.specs.Claims.{AcceptsMeans}
 
@@ -73,3 +72,8 @@ module _ (table : List Task) (n : ℕ) (s : Placing) (i : ℕ) where
   pub lowest-says : Firstly (accepts table n (s .partitions) i) (s .opened) (lowestAccepting table n s i)
   unfolding lowestAccepting
   lowest-says = first-says (accepts table n (s .partitions) i) (s .opened)
+
+  -- what is found is an opened one
+  pub lowest-below : (f : Found) → f ≡ lowestAccepting table n s i → FoundBelow f (s .opened)
+  lowest-below (At k) e = subst (Firstly (accepts table n (s .partitions) i) (s .opened)) (sym e) lowest-says .below
+  lowest-below Nothing e = tt

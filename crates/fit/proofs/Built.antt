@@ -8,10 +8,9 @@ use Rattle.laws.proofs.Filled.{filled-in, filled-past}
 use Rattle.model.specs.Limits.{mostTasks, zeroMember, emptyBuild}
 use Rattle.model.specs.Rules.{WithinLimits}
 use Rattle.demand.specs.Priority.{rank}
-use Rattle.demand.specs.Test.{verdict}
 use Rattle.fit.specs.Kinds.{Task, Order, Member, Build, Answer, Done, Refused, Refusal, FirstFit, Passes, Placing, Outcome, Fitted}
 use Rattle.fit.specs.Turns.{partitionOf}
-use Rattle.fit.specs.Steps.{goingOn, refusing, firstFit}
+use Rattle.fit.specs.Steps.{goingOn, refusing, firstFit, firstFitOf}
 use Rattle.fit.specs.Recorded.{responseOf, memberOf, buildOf, fittedBy, recorded, fitted}
 use Rattle.fit.specs.Claims.{Placed, RefusedIn, memberAt, Built, FittedIsBuilt, FittedIsRefused}
 use Rattle.fit.proofs.Claims.{placed-all, verdict-agrees, rank-agrees, placed-agrees, places, refuses, one-of-two}
@@ -33,6 +32,16 @@ module _ (table : List Task) (n M : ℕ) where
   pub fitted-refused : (s : Placing) (i : ℕ) → firstFit table n M ≡ refusing s i → fitted table n M ≡ record { answer = Refused (FirstFit i); build = emptyBuild }
   unfolding fitted recorded
   fitted-refused s i e = ap (recorded table n M) e
+
+  -- by the answer of the steps
+  module _ (o : Outcome) (is : o ≡ firstFit table n M) where
+    pub recorded-refused : (cause : Refusal) → o .answer ≡ Refused cause → record { answer = Refused cause; build = emptyBuild } ≡ fitted table n M
+    unfolding fitted recorded
+    recorded-refused cause e = ap (λ (a : Answer). fittedBy a (buildOf table n M (o .placing))) (sym e) ∙ ap (recorded table n M) is
+
+    pub recorded-done : (count : ℕ) → o .answer ≡ Done count → record { answer = Done 0; build = buildOf table n M (o .placing) } ≡ fitted table n M
+    unfolding fitted recorded
+    recorded-done count e = ap (λ (a : Answer). fittedBy a (buildOf table n M (o .placing))) (sym e) ∙ ap (recorded table n M) is
 
 done-not-refused : {A : Type 0} (a b : Build) (count : ℕ) (cause : Refusal) →
     _≡_ {A = Fitted} (record { answer = Done count; build = a }) (record { answer = Refused cause; build = b }) → A
@@ -77,7 +86,7 @@ module _ (order : Order) (limits : WithinLimits order) where
 pub fitted-is-built : FittedIsBuilt
 fitted-is-built order build count partitions limits e agree = go (one-of-two order limits)
   where
-    go : ((s : Placing) × (firstFit (order .table) (order .tasks) (order .processors) ≡ goingOn s)) ⊎ ((s : Placing) × ((i : ℕ) × (firstFit (order .table) (order .tasks) (order .processors) ≡ refusing s i))) → Built order build partitions
+    go : ((s : Placing) × (firstFitOf order ≡ goingOn s)) ⊎ ((s : Placing) × ((i : ℕ) × (firstFitOf order ≡ refusing s i))) → Built order build partitions
     go (inl (s, f)) =
         let same : buildOf (order .table) (order .tasks) (order .processors) s ≡ build = ap (λ (x : Fitted). x .build) (sym (fitted-done (order .table) (order .tasks) (order .processors) s f) ∙ e) in
         subst (λ (x : Build). Built order x partitions) same
@@ -87,7 +96,7 @@ fitted-is-built order build count partitions limits e agree = go (one-of-two ord
 pub fitted-is-refused : FittedIsRefused
 fitted-is-refused order build cause limits e = go (one-of-two order limits)
   where
-    go : ((s : Placing) × (firstFit (order .table) (order .tasks) (order .processors) ≡ goingOn s)) ⊎ ((s : Placing) × ((i : ℕ) × (firstFit (order .table) (order .tasks) (order .processors) ≡ refusing s i))) →
+    go : ((s : Placing) × (firstFitOf order ≡ goingOn s)) ⊎ ((s : Placing) × ((i : ℕ) × (firstFitOf order ≡ refusing s i))) →
         (build ≡ emptyBuild) × ((s : Placing) × ((i : ℕ) × (cause ≡ FirstFit i) × RefusedIn (order .table) (order .tasks) (order .processors) s i))
     go (inl (s, f)) = done-not-refused (buildOf (order .table) (order .tasks) (order .processors) s) build 0 cause (sym (fitted-done (order .table) (order .tasks) (order .processors) s f) ∙ e)
     go (inr (s, (i, f))) =

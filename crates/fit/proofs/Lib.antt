@@ -5,3 +5,5 @@ pub mod Standing
 pub mod Steps
 pub mod Claims
 pub mod Built
+pub mod Fields
+pub mod Points

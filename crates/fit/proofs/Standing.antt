@@ -1,16 +1,14 @@
 -- How a placing stands after so many steps; a task put into a partition that takes it, or into a new one, leaves it standing so.
-use mathlib.Core.Path.{_≡_, refl, sym, ap, _∙_, subst, subst⁻¹}
+use mathlib.Core.Path.{_≡_, refl, sym, ap, _∙_}
 use mathlib.Core.Bool.{Bool, true, false}
 use mathlib.Core.List.{List}
-use mathlib.Core.Logic.{⊎-elim}
-use Prim.Native.Nat.{ℕ, zero, suc, _+_, _-_, _≤_, _<_}
-use native.Mathlib.Nat.{eq-or-lt-of-le, le-of-suc-le-suc}
+use Prim.Native.Nat.{ℕ, _+_, _-_, _≤_, _<_}
 use native.Mathlib.Decide.{decLt, ℕ-discrete}
 use native.Mathlib.Omega.{arith}
-use lib.ListN.{length, getD, set, replicate, length-set, length-replicate, getD-replicate}
+use lib.ListN.{length, getD, set, replicate, length-set, getD-replicate}
 use lib.Seq.{getD-set-same, getD-set-other}
 use borrow.Author.Tests.{eq-eqb}
-use Rattle.laws.specs.Sums.{only, sum}
+use Rattle.laws.specs.Sums.{sum}
 use Rattle.laws.proofs.Every.{clash}
 use Rattle.laws.proofs.Filled.{getD-alike}
 use Rattle.laws.proofs.Sums.{sum-none, sum-more, sum-same}
@@ -24,7 +22,7 @@ use Rattle.fit.specs.Turns.{widthOf, unplaced, partitionOf, isUnplaced}
 use Rattle.fit.specs.Steps.{nothingPlaced, put, openNext, accepts}
 use Rattle.fit.specs.Claims.{IsNext, volumeOf, processorOf}
 use Rattle.fit.proofs.Turns.{before-wide}
-use Rattle.fit.proofs.Put.{unplaced-says, placed-says, in-says, says-out, out-says, in-same, waiting, all-wait, put-here, put-other, put-placed, put-unplaced, put-waiting}
+use Rattle.fit.proofs.Put.{unplaced-says, placed-says, says-out, out-says, in-same, waiting, all-wait, put-here, put-other, put-placed, put-unplaced, put-waiting}
 use Rattle.fit.proofs.Accepts.{members-say}
 
 -- the partition numbers of n tasks, of which so many wait

@@ -1,22 +1,21 @@
 -- Laws of the steps: each step goes on with one task more placed, or refuses the task whose turn it is; n steps place all.
 use mathlib.Core.Path.{_≡_, refl, sym, ap, _∙_, subst}
-use mathlib.Core.Bool.{Bool, true, false}
+use mathlib.Core.Bool.{false}
 use mathlib.Core.List.{List}
 use Prim.Native.Nat.{ℕ, zero, suc, _+_, _-_, _≤_, _<_}
 use native.Mathlib.Decide.{decLe}
 use native.Mathlib.Numerals.{add-one}
 use native.Mathlib.Omega.{arith}
-use lib.Dec.{leb}
 use borrow.Author.Tests.{le-leb, lt-leb}
 use Rattle.laws.proofs.Every.{clash}
-use Rattle.search.proofs.First.{IsFirst, Firstly}
+use Rattle.search.proofs.First.{Firstly}
 use Rattle.demand.specs.Test.{Sound}
-use Rattle.fit.specs.Kinds.{Task, Answer, Done, Refused, Refusal, Found, At, Nothing, Placing, Outcome}
-use Rattle.fit.specs.Turns.{widthOf, isUnplaced, nextTask}
+use Rattle.fit.specs.Kinds.{Task, Answer, Done, Refused, Refusal, FirstFit, Found, At, Nothing, Placing, Outcome}
+use Rattle.fit.specs.Turns.{widthOf, nextTask}
 use Rattle.fit.specs.Steps.{nothingPlaced, put, openNext, goingOn, refusing, accepts, lowestAccepting, opening, settled, afterTurn, step, unlessRefused, steps}
 use Rattle.fit.specs.Claims.{IsNext, RefusedIn}
 use Rattle.fit.proofs.Turns.{next-is, none-next}
-use Rattle.fit.proofs.Put.{waiting, one-waits}
+use Rattle.fit.proofs.Put.{one-waits}
 use Rattle.fit.proofs.Accepts.{lowest-says}
 use Rattle.fit.proofs.Standing.{Stands, stands-accepted, stands-opened}
 
@@ -41,6 +40,19 @@ module _ (table : List Task) (n M : ℕ) where
   unfolding steps unlessRefused
   steps-stop k i s t e = ap (λ (o : Outcome). unlessRefused o (steps table n M k)) e
 
+  -- a refusal ends the steps; else the rest follows
+  pub steps-end : (k : ℕ) (s : Placing) (cause : Refusal) → step table n M s .answer ≡ Refused cause → steps table n M (suc k) s ≡ step table n M s
+  unfolding steps
+  steps-end k s cause e = on-refused (step table n M s) (steps table n M k) cause e
+
+  pub steps-next : (k : ℕ) (s : Placing) (count : ℕ) → step table n M s .answer ≡ Done count → steps table n M (suc k) s ≡ steps table n M k (step table n M s .placing)
+  unfolding steps
+  steps-next k s count e = on-done (step table n M s) (steps table n M k) count e
+
+  pub step-idle : (s : Placing) → nextTask table (s .partitions) n ≡ Nothing → step table n M s ≡ goingOn s
+  unfolding step
+  step-idle s e = ap (afterTurn table n M s) e
+
   pub opening-new : (s : Placing) (i : ℕ) → widthOf table i ≤ M - s .used → opening table M s i ≡ goingOn (put (openNext s (widthOf table i)) i (s .opened))
   unfolding opening
   opening-new s i l = rw (le-leb (widthOf table i) (M - s .used) l)
@@ -53,7 +65,7 @@ module _ (table : List Task) (n M : ℕ) where
     -- a step is the turn of the next task, settled
     pub step-next : step table n M s ≡ settled table M s i (lowestAccepting table n s i)
     unfolding step
-    step-next = rw turn
+    step-next = ap (afterTurn table n M s) turn
 
     pub step-put : (k : ℕ) → lowestAccepting table n s i ≡ At k → step table n M s ≡ goingOn (put s i k)
     step-put k e = step-next ∙ rw e
@@ -113,6 +125,16 @@ module _ (table : List Task) (n M : ℕ) (sound : Sound table n) (widths : (j : 
       by-turn Nothing turn =
           let one = one-waits (s .partitions) n (omega (arith, was .numbered .count)) in
           clash (sym (none-next table (s .partitions) n turn (one .0) (one .1)) ∙ one .2)
+
+  pub stands-next : (placed : ℕ) (s : Placing) (count : ℕ) → Stands table n M placed s → placed < n → step table n M s .answer ≡ Done count → Stands table n M (placed + 1) (step table n M s .placing)
+  stands-next placed s count was early done = go (step-cases placed s was early)
+    where
+      go : StepCases placed s → Stands table n M (placed + 1) (step table n M s .placing)
+      go (went-on t is e) = subst (Stands table n M (placed + 1)) (ap (λ (o : Outcome). o .placing) (sym e)) is
+      go (refused i next none short e) =
+          let f : Refused (FirstFit i) ≡ Done count = ap (λ (o : Outcome). o .answer) (sym e) ∙ done in
+          let z : _≡_ {A = ℕ} 0 1 = cc f in
+          absurd (omega arith)
 
   -- what so many steps end in
   pub data Ends (left : ℕ) (s : Placing) : Type 0 where

@@ -1,20 +1,20 @@
 -- What first fit's turns, placing, refusal and build say, in the document's words: claims, proved in proofs/Claims.antt.
 use mathlib.Core.Path.{_≡_}
-use mathlib.Core.Bool.{Bool, true, false}
+use mathlib.Core.Bool.{true, false}
 use mathlib.Core.List.{List}
 use mathlib.Core.Logic.{_↔_, _⊎_}
-use Prim.Native.Nat.{ℕ, _+_, _≤_, _<_}
+use Prim.Native.Nat.{ℕ, _+_, _^_, _≤_, _<_}
 use lib.ListN.{getD, set}
 use Rattle.laws.specs.Sums.{sum}
 use Rattle.model.specs.Limits.{zeroPartition, zeroMember, emptyBuild}
 use Rattle.model.specs.Rules.{WithinLimits}
 use Rattle.demand.specs.Priority.{inPartition, rank}
-use Rattle.demand.specs.Releases.{periodOf, costOf}
-use Rattle.demand.specs.Test.{Sound, verdict}
-use Rattle.fit.specs.Kinds.{Task, Order, Partition, Member, Build, Done, Refused, Refusal, FirstFit, At, Nothing, Passes, Placing, Fitted}
+use Rattle.demand.specs.Releases.{periodOf}
+use Rattle.demand.specs.Test.{verdict}
+use Rattle.fit.specs.Kinds.{Task, Order, Partition, Member, Build, Done, Refused, Refusal, FirstFit, At, Nothing, Passes, Placing}
 use Rattle.fit.specs.Turns.{widthOf, partitionOf, isUnplaced, comesBefore, nextTask}
-use Rattle.fit.specs.Steps.{nothingPlaced, goingOn, refusing, accepts, steps, firstFit}
-use Rattle.fit.specs.Recorded.{fitted}
+use Rattle.fit.specs.Steps.{nothingPlaced, goingOn, refusing, accepts, steps, firstFitOf}
+use Rattle.fit.specs.Recorded.{fittedOf}
 
 -- "larger m, then smaller T, then lower number"
 abbrev pub ComesBefore : List Task → ℕ → ℕ → Type 0
@@ -70,7 +70,7 @@ pub record Placed (table : List Task) (n M : ℕ) (partitions : List ℕ) (place
 -- what a fit says: every task is placed
 abbrev pub FirstFitPlaces : Type 0
 FirstFitPlaces =
-    (order : Order) (s : Placing) → WithinLimits order → firstFit (order .table) (order .tasks) (order .processors) ≡ goingOn s →
+    (order : Order) (s : Placing) → WithinLimits order → firstFitOf order ≡ goingOn s →
     Placed (order .table) (order .tasks) (order .processors) (s .partitions) (s .places) (s .opened)
 
 -- task i's turn comes in placing s, no open partition takes it, and fewer than its m processors are left
@@ -83,15 +83,15 @@ pub record RefusedIn (table : List Task) (n M : ℕ) (s : Placing) (i : ℕ) : T
 
 abbrev pub FirstFitRefuses : Type 0
 FirstFitRefuses =
-    (order : Order) (s : Placing) (i : ℕ) → WithinLimits order → firstFit (order .table) (order .tasks) (order .processors) ≡ refusing s i →
+    (order : Order) (s : Placing) (i : ℕ) → WithinLimits order → firstFitOf order ≡ refusing s i →
     RefusedIn (order .table) (order .tasks) (order .processors) s i
 
 -- it fits or a task is refused: there is no third answer
 abbrev pub FirstFitEnds : Type 0
 FirstFitEnds =
     (order : Order) → WithinLimits order →
-    ((s : Placing) × (firstFit (order .table) (order .tasks) (order .processors) ≡ goingOn s))
-    ⊎ ((s : Placing) × ((i : ℕ) × (firstFit (order .table) (order .tasks) (order .processors) ≡ refusing s i)))
+    ((s : Placing) × (firstFitOf order ≡ goingOn s))
+    ⊎ ((s : Placing) × ((i : ℕ) × (firstFitOf order ≡ refusing s i)))
 
 -- task i as the build records it
 abbrev pub memberAt : Build → ℕ → Member
@@ -110,12 +110,26 @@ pub record Built (order : Order) (build : Build) (partitions : List ℕ) : Type 
 abbrev pub FittedIsBuilt : Type 0
 FittedIsBuilt =
     (order : Order) (build : Build) (count : ℕ) (partitions : List ℕ) → WithinLimits order →
-    fitted (order .table) (order .tasks) (order .processors) ≡ record { answer = Done count; build = build } →
+    fittedOf order ≡ record { answer = Done count; build = build } →
     ((i : ℕ) → i < order .tasks → partitionOf partitions i ≡ memberAt build i .partition) → Built order build partitions
 
 -- "Else refuse, naming that task.": it is one of the order's, and the build is empty
 abbrev pub FittedIsRefused : Type 0
 FittedIsRefused =
     (order : Order) (build : Build) (cause : Refusal) → WithinLimits order →
-    fitted (order .table) (order .tasks) (order .processors) ≡ record { answer = Refused cause; build = build } →
+    fittedOf order ≡ record { answer = Refused cause; build = build } →
     (build ≡ emptyBuild) × ((s : Placing) × ((i : ℕ) × (cause ≡ FirstFit i) × RefusedIn (order .table) (order .tasks) (order .processors) s i))
+
+-- "M 7, n 6, partition count p 7", "volume 7, first processor 6", "partition 6, rank 5, worst response 20": every number fits its field
+pub record InFields (build : Build) : Type 0 where
+  pub processors : build .processors < 2 ^ 7
+  pub tasks : build .tasks < 2 ^ 6
+  pub partitions : build .partitions < 2 ^ 7
+  pub volume : (k : ℕ) → k < build .partitions → volumeOf (build .places) k < 2 ^ 7
+  pub first : (k : ℕ) → k < build .partitions → processorOf (build .places) k < 2 ^ 6
+  pub partition : (i : ℕ) → i < build .tasks → memberAt build i .partition < 2 ^ 6
+  pub rank : (i : ℕ) → i < build .tasks → memberAt build i .rank < 2 ^ 5
+  pub response : (i : ℕ) → i < build .tasks → memberAt build i .response < 2 ^ 20
+
+abbrev pub FittedInFields : Type 0
+FittedInFields = (order : Order) → WithinLimits order → InFields (fittedOf order .build)

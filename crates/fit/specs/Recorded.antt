@@ -2,12 +2,11 @@
 use mathlib.Core.Path.{_≡_}
 use mathlib.Core.List.{List}
 use Prim.Native.Nat.{ℕ}
-use lib.ListN.{getD}
 use Rattle.laws.specs.Joined.{filled}
 use Rattle.model.specs.Limits.{mostTasks, zeroMember, emptyBuild}
 use Rattle.demand.specs.Priority.{rank}
 use Rattle.demand.specs.Test.{verdict}
-use Rattle.fit.specs.Kinds.{Task, Order, Member, Build, Answer, Done, Refused, Refusal, Verdict, Passes, NoWindow, NoStart, Late, Placing, Outcome, Fitted}
+use Rattle.fit.specs.Kinds.{Task, Order, Member, Build, Answer, Done, Refused, Verdict, Passes, NoWindow, NoStart, Late, Placing, Outcome, Fitted}
 use Rattle.fit.specs.Turns.{partitionOf}
 use Rattle.fit.specs.Steps.{firstFit}
 
@@ -44,6 +43,9 @@ recorded table n M o = fittedBy (o .answer) (buildOf table n M (o .placing))
 unfoldable pub fitted : List Task → ℕ → ℕ → Fitted
 fitted table n M = recorded table n M (firstFit table n M)
 
+abbrev pub fittedOf : Order → Fitted
+fittedOf order = fitted (order .table) (order .tasks) (order .processors)
+
 -- what first fit promises
 abbrev pub Fits : Order → Fitted → Type 0
-Fits order answer = answer ≡ fitted (order .table) (order .tasks) (order .processors)
+Fits order answer = answer ≡ fittedOf order

@@ -10,7 +10,7 @@ use Rattle.model.specs.Limits.{mostTasks, mostPartitions, zeroPartition}
 use Rattle.search.specs.Smallest.{firstOf}
 use Rattle.demand.specs.Priority.{inPartition}
 use Rattle.demand.specs.Test.{verdict, doesPass}
-use Rattle.fit.specs.Kinds.{Task, Order, Answer, Done, Refused, FirstFit, Found, At, Nothing, Placing, Outcome}
+use Rattle.fit.specs.Kinds.{Task, Order, Done, Refused, FirstFit, Found, At, Nothing, Placing, Outcome}
 use Rattle.fit.specs.Turns.{widthOf, unplaced, nextTask}
 
 -- no task is placed, no partition is open
@@ -86,3 +86,6 @@ steps table n M (suc k) s = unlessRefused (step table n M s) (steps table n M k)
 -- a step for each task
 unfoldable pub firstFit : List Task → ℕ → ℕ → Outcome
 firstFit table n M = steps table n M n nothingPlaced
+
+abbrev pub firstFitOf : Order → Outcome
+firstFitOf order = firstFit (order .table) (order .tasks) (order .processors)

@@ -13,7 +13,7 @@ ghost use Prim.Native.Nat.{_≤_, _<_};
 ghost use Rattle.model.specs.Rules.{WithinLimits};
 ghost use Rattle.demand.specs.Test.{Sound};
 ghost use Rattle.fit.specs.Turns.{FoundBelow};
-ghost use Rattle.fit.specs.Steps.{goingOn, settled, opening, step as stepOf, firstFit};
+ghost use Rattle.fit.specs.Steps.{goingOn, settled, opening, step as stepOf, firstFitOf};
 
 fn going_on(placing: Placing) -> Outcome
     ensures { λ r. ⌜ r ≡ goingOn placing ⌝ }
@@ -77,7 +77,7 @@ fn step(table: [Task; Order::MOST_TASKS], placing: Placing, tasks: usize, proces
 // A step for each task, or until one is refused.
 pub fn place_all(order: Order) -> Outcome
     requires { ⌜ WithinLimits order ⌝ }
-    ensures { λ r. ⌜ r ≡ firstFit (order .table) (order .tasks) (order .processors) ⌝ }
+    ensures { λ r. ⌜ r ≡ firstFitOf order ⌝ }
 {
     let table = order.table;
     let tasks = order.tasks as usize;

@@ -20,7 +20,7 @@ found : (c : tie.After-read-order) → firstBroken 0 (orderRules (now (c .before
 found c = sym (read-answer (now (c .before .before .before .args .order))) ∙ ap (λ (r : Reading). r .answer) (sym (c .read-order .ensures))
 
 order-same : (c : tie.After-read-order) {count : ℕ} → c .read-order .result .answer ≡ Done count → c .read-order .result .order ≡ orderAt (now (c .before .before .before .args .order))
-order-same c e = ap (λ (r : Reading). r .order) (c .read-order .ensures) ∙ read-order (now (c .before .before .before .args .order)) (found c ∙ e)
+order-same c e = ap (λ (r : Reading). r .order) (c .read-order .ensures) ∙ read-order (now (c .before .before .before .args .order)) (ap (λ (r : Reading). r .answer) (sym (c .read-order .ensures)) ∙ e)
 
 read-order-requires : tie.Need-read-order-requires
 read-order-requires c κs = search needs

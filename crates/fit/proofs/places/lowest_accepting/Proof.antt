@@ -1,47 +1,43 @@
+use Rattle.search.proofs.First.{first-found, first-missing}
+use borrow.Author.Count.{below-more}
+use native.Mathlib.Omega.{arith}
+use Rattle.fit.specs.Steps.{accepts}
+use mathlib.Core.Bool.{false}
+use Prim.Native.Nat.{ℕ, _≤_, _<_, _-_}
+use mathlib.Core.Path.{_≡_, sym, _∙_}
 use borrow.Author.Needs.{needs}
 use Rattle.fit.proofs.places.lowest_accepting.Statement.{statement}
 use Rattle.fit.proofs.places.lowest_accepting.Tie as tie
-use Rattle.fit.proofs.places.lowest_accepting.Reads as reads
-use Rattle.fit.proofs.places.lowest_accepting.Lts as lts
-use Rattle.fit.proofs.places.accepts.Reads as accepts-reads
 
 abbrev Inv-loop : tie.InvT-loop
-Inv-loop table partitions tasks task opened partition₀ partition = ?
+Inv-loop table partitions tasks task opened partition₀ partition = (partition ≤ opened) × ((k : ℕ) → k < partition → accepts table tasks partitions task k ≡ false)
 
 abbrev μ-loop : tie.MeasureT-loop
-μ-loop table partitions tasks task opened partition₀ partition = ?
+μ-loop table partitions tasks task opened partition₀ partition = opened - partition
 
--- src/places.rt:83:5
 loop-holds : tie.Need-loop-holds Inv-loop μ-loop
-loop-holds c = search needs
+loop-holds c = (omega arith, λ k l. absurd (omega arith))
 
--- src/places.rt:84:12
 accepts-requires : tie.Need-accepts-requires Inv-loop μ-loop
 accepts-requires c κs = search needs
 
--- src/places.rt:85:30
 cast-t9 : tie.Need-cast-t9 Inv-loop μ-loop
 cast-t9 c = search needs
 
--- src/places.rt:85:13
 returns : tie.Need-returns Inv-loop μ-loop
-returns c = search needs
+returns c = let a = c .before .before .before .before .args in let l = c .before .before .before .loop in sym (first-found (accepts (a .table) (a .tasks) (a .partitions) (a .task)) (a .opened) (l .partition) (record { below = c .before .before .loop-test .taken; holds = sym (c .before .accepts .ensures) ∙ c .if1 .taken; earlier = l .inv .1 }))
 
--- src/places.rt:87:9
 add-partition : tie.Need-add-partition Inv-loop μ-loop
 add-partition c = search needs
 
--- src/places.rt:83:5
 loop-less : tie.Need-loop-less Inv-loop μ-loop
 loop-less c = search needs
 
--- src/places.rt:83:5
 loop-again : tie.Need-loop-again Inv-loop μ-loop
-loop-again c = search needs
+loop-again c = let l = c .before .before .before .loop in (omega arith, below-more _ _ (l .inv .1) (sym (c .before .accepts .ensures) ∙ c .if1 .left))
 
--- src/places.rt:72:1
 returns-2 : tie.Need-returns-2 Inv-loop μ-loop
-returns-2 c = search needs
+returns-2 c = let a = c .before .before .args in let l = c .before .loop in sym (first-missing (accepts (a .table) (a .tasks) (a .partitions) (a .task)) (a .opened) (λ k m. l .inv .1 k (omega arith)))
 
 pub lowest-accepting-spec : {M : Type 1} → statement M
 lowest-accepting-spec =

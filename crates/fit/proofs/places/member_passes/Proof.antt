@@ -4,32 +4,23 @@ use Rattle.demand.specs.Test.{verdict, doesPass}
 use Rattle.demand.specs.Priority.{inPartition}
 use borrow.Author.Tests.{not-true, not-false}
 use Prim.Native.Nat.{ℕ}
-use mathlib.Core.Path.{_≡_, refl, sym, ap, _∙_}
+use mathlib.Core.Path.{sym, ap, _∙_}
 use borrow.Author.Needs.{needs}
 use Rattle.fit.proofs.places.member_passes.Statement.{statement}
 use Rattle.fit.proofs.places.member_passes.Tie as tie
-use Rattle.fit.proofs.places.member_passes.Reads as reads
-use Rattle.fit.proofs.places.member_passes.Lts as lts
-use Rattle.demand.proofs.is_member.Reads as is-member-reads
-use Rattle.verdict.proofs.passes.Reads as passes-reads
 
--- src/places.rt:24:9
 returns : tie.Need-returns
 returns c = let a = c .before .args in sym (member-of (a .table) (a .tasks) (a .partitions) (a .task) (a .other) (ap (inPartition (a .partitions) (a .task)) (c .if1 .taken) ∙ in-self (a .partitions) (a .task)) ∙ (ap (λ (x : ℕ). doesPass (verdict (a .table) (a .partitions) (a .tasks) x)) (c .if1 .taken) ∙ c .before .pre .3))
 
--- src/places.rt:26:9
 is-member-requires : tie.Need-is-member-requires
 is-member-requires c κs = search needs
 
--- src/places.rt:27:9
 returns-2 : tie.Need-returns-2
 returns-2 c = let a = c .before .before .before .args in sym (stranger (a .table) (a .tasks) (a .partitions) (a .task) (a .other) (sym (c .before .is-member .ensures) ∙ not-true _ (c .if2 .taken)))
 
--- src/places.rt:29:5
 passes-requires : tie.Need-passes-requires
 passes-requires c κs = search needs
 
--- src/places.rt:13:1
 returns-3 : tie.Need-returns-3
 returns-3 c = let a = c .before .before .before .before .args in c .passes .ensures ∙ sym (member-of (a .table) (a .tasks) (a .partitions) (a .task) (a .other) (sym (c .before .before .is-member .ensures) ∙ not-false _ (c .before .if2 .left)))
 

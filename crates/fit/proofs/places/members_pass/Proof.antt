@@ -5,15 +5,11 @@ use borrow.Author.Tests.{not-true, not-false}
 use native.Mathlib.Omega.{arith}
 use Rattle.fit.specs.Steps.{memberPasses}
 use mathlib.Core.Bool.{true}
-use Prim.Native.Nat.{ℕ, _≤_, _<_, _-_, _+_}
-use mathlib.Core.Path.{_≡_, refl, sym, ap, _∙_}
+use Prim.Native.Nat.{ℕ, _≤_, _<_, _-_}
+use mathlib.Core.Path.{_≡_, sym, _∙_}
 use borrow.Author.Needs.{needs}
 use Rattle.fit.proofs.places.members_pass.Statement.{statement}
 use Rattle.fit.proofs.places.members_pass.Tie as tie
-use Rattle.fit.proofs.places.members_pass.Reads as reads
-use Rattle.fit.proofs.places.members_pass.Lts as lts
-use Rattle.fit.proofs.places.member_passes.Reads as member-passes-reads
-use Rattle.verdict.proofs.passes.Reads as passes-reads
 
 abbrev Inv-loop : tie.InvT-loop
 Inv-loop table partitions tasks task other₀ other = (other ≤ tasks) × ((j : ℕ) → j < other → memberPasses table tasks partitions task j ≡ true)
@@ -21,39 +17,30 @@ Inv-loop table partitions tasks task other₀ other = (other ≤ tasks) × ((j :
 abbrev μ-loop : tie.MeasureT-loop
 μ-loop table partitions tasks task other₀ other = tasks - other
 
--- src/places.rt:42:9
 passes-requires : tie.Need-passes-requires Inv-loop μ-loop
 passes-requires c κs = search needs
 
--- src/places.rt:43:9
 returns : tie.Need-returns Inv-loop μ-loop
 returns c = let a = c .before .before .args in sym (members-not (a .table) (a .tasks) (a .partitions) (a .task) (a .task) (c .before .before .pre .1) (member-of (a .table) (a .tasks) (a .partitions) (a .task) (a .task) (in-self (a .partitions) (a .task)) ∙ (sym (c .before .passes .ensures) ∙ not-true _ (c .if1 .taken))))
 
--- src/places.rt:46:5
 loop-holds : tie.Need-loop-holds Inv-loop μ-loop
 loop-holds c = (omega arith, λ j l. absurd (omega arith))
 
--- src/places.rt:47:13
 member-passes-requires : tie.Need-member-passes-requires Inv-loop μ-loop
 member-passes-requires c κs = let s = c .before .before .before .before in (s .pre .0, s .pre .1, c .loop-test .taken, sym (c .before .before .before .passes .ensures) ∙ not-false _ (c .before .before .if1 .left))
 
--- src/places.rt:48:13
 returns-2 : tie.Need-returns-2 Inv-loop μ-loop
 returns-2 c = let a = c .before .before .before .before .before .before .args in sym (members-not (a .table) (a .tasks) (a .partitions) (a .task) (c .before .before .before .loop .other) (c .before .before .loop-test .taken) (sym (c .before .member-passes .ensures) ∙ not-true _ (c .if2 .taken)))
 
--- src/places.rt:50:9
 add-other : tie.Need-add-other Inv-loop μ-loop
 add-other c = search needs
 
--- src/places.rt:46:5
 loop-less : tie.Need-loop-less Inv-loop μ-loop
 loop-less c = search needs
 
--- src/places.rt:46:5
 loop-again : tie.Need-loop-again Inv-loop μ-loop
 loop-again c = let l = c .before .before .before .loop in (omega arith, below-more _ _ (l .inv .1) (sym (c .before .member-passes .ensures) ∙ not-false _ (c .if2 .left)))
 
--- src/places.rt:33:1
 returns-3 : tie.Need-returns-3 Inv-loop μ-loop
 returns-3 c = let a = c .before .before .before .before .args in let l = c .before .loop in sym (members-all (a .table) (a .tasks) (a .partitions) (a .task) (λ j m. l .inv .1 j (omega arith)))
 

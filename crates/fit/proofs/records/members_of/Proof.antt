@@ -5,15 +5,11 @@ use Rattle.fit.specs.Recorded.{memberOf}
 use Rattle.model.specs.Limits.{zeroMember}
 use Rattle.laws.proofs.Joined.{filled-none, filled-more}
 use Rattle.laws.specs.Joined.{filled}
-use Prim.Native.Nat.{_≤_, _-_, _+_}
-use mathlib.Core.Path.{_≡_, refl, sym, ap, _∙_}
+use Prim.Native.Nat.{_≤_, _-_}
+use mathlib.Core.Path.{_≡_, ap, _∙_}
 use borrow.Author.Needs.{needs}
 use Rattle.fit.proofs.records.members_of.Statement.{statement}
 use Rattle.fit.proofs.records.members_of.Tie as tie
-use Rattle.fit.proofs.records.members_of.Reads as reads
-use Rattle.fit.proofs.records.members_of.Lts as lts
-use Rattle.fit.proofs.records.member_of.Reads as member-of-reads
-use Rattle.model.proofs.build.Member.zero.Reads as zero-reads
 
 abbrev Inv-loop : tie.InvT-loop
 Inv-loop table partitions tasks members₀ task₀ members task = (task ≤ tasks) × (members ≡ filled (memberOf table partitions tasks) zeroMember 32 task)
@@ -21,39 +17,30 @@ Inv-loop table partitions tasks members₀ task₀ members task = (task ≤ task
 abbrev μ-loop : tie.MeasureT-loop
 μ-loop table partitions tasks members₀ task₀ members task = tasks - task
 
--- src/records.rt:55:24
 zero-requires : tie.Need-zero-requires Inv-loop μ-loop
 zero-requires c κs = search needs
 
--- src/records.rt:57:5
 loop-holds : tie.Need-loop-holds Inv-loop μ-loop
 loop-holds c = let a = c .before .args in (omega arith, ap (replicate 32) (c .zero .ensures) ∙ filled-none (memberOf (a .table) (a .partitions) (a .tasks)) zeroMember 32)
 
--- src/records.rt:58:13
 member-of-requires : tie.Need-member-of-requires Inv-loop μ-loop
 member-of-requires c κs = search needs
 
--- src/records.rt:59:9
 mul-members : tie.Need-mul-members Inv-loop μ-loop
 mul-members c = search needs
 
--- src/records.rt:59:9
 array-set-from-members : tie.Need-array-set-from-members Inv-loop μ-loop
 array-set-from-members c = search needs
 
--- src/records.rt:60:9
 add-task : tie.Need-add-task Inv-loop μ-loop
 add-task c = search needs
 
--- src/records.rt:57:5
 loop-less : tie.Need-loop-less Inv-loop μ-loop
 loop-less c = search needs
 
--- src/records.rt:57:5
 loop-again : tie.Need-loop-again Inv-loop μ-loop
 loop-again c = let a = c .before .before .before .before .args in (omega arith, cc (filled-more (memberOf (a .table) (a .partitions) (a .tasks)) zeroMember 32 (c .before .before .loop .task) (omega (arith, c .before .before .before .before .pre .few))))
 
--- src/records.rt:47:1
 returns : tie.Need-returns Inv-loop μ-loop
 returns c = let a = c .before .before .before .args in c .before .loop .inv .1 ∙ ap (filled (memberOf (a .table) (a .partitions) (a .tasks)) zeroMember 32) (le-antisymm (c .before .loop .inv .0) (c .loop-test .left))
 

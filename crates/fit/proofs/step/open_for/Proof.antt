@@ -1,50 +1,35 @@
 use Rattle.fit.proofs.Steps.{opening-new, opening-none}
 use Rattle.fit.specs.Kinds.{Placing}
-use mathlib.Core.Path.{_≡_, refl, sym, ap, _∙_}
-use Rattle.fit.specs.Steps.{opening, put, goingOn}
-use borrow.Author.Tests.{le-leb, lt-leb}
+use mathlib.Core.Path.{sym, ap, _∙_}
+use Rattle.fit.specs.Steps.{put, goingOn}
 use borrow.Author.Needs.{needs}
 use Rattle.fit.proofs.step.open_for.Statement.{statement}
 use Rattle.fit.proofs.step.open_for.Tie as tie
-use Rattle.fit.proofs.step.open_for.Reads as reads
-use Rattle.fit.proofs.step.open_for.Lts as lts
-use Rattle.fit.proofs.state.Placing.open_next.Reads as open-next-reads
-use Rattle.fit.proofs.state.Placing.put.Reads as put-reads
-use Rattle.fit.proofs.step.going_on.Reads as going-on-reads
 
--- src/step.rt:32:15
 mul-its : tie.Need-mul-its
 mul-its c = search needs
 
--- src/step.rt:32:15
 array-copy-out-its : tie.Need-array-copy-out-its
 array-copy-out-its c = search needs
 
--- src/step.rt:33:21
 sub-if1 : tie.Need-sub-if1
 sub-if1 c = search needs
 
--- src/step.rt:34:13
 open-next-requires : tie.Need-open-next-requires
 open-next-requires c κs = search needs
 
--- src/step.rt:35:25
 put-requires : tie.Need-put-requires
 put-requires c κs = search needs
 
--- src/step.rt:35:9
 going-on-requires : tie.Need-going-on-requires
 going-on-requires c κs = search needs
 
--- src/step.rt:35:9
 returns : tie.Need-returns
 returns c = let a = c .before .before .before .before .before .before .before .args in c .going-on .ensures ∙ (ap goingOn (c .before .put .ensures ∙ ap (λ (s : Placing). put s (a .task) (a .placing .opened)) (c .before .before .open-next .ensures)) ∙ sym (opening-new (a .t1) 0 (a .processors) (a .placing) (a .task) (c .before .before .before .if1 .taken)))
 
--- src/step.rt:38:51
 cast-t15 : tie.Need-cast-t15
 cast-t15 c = search needs
 
--- src/step.rt:28:1
 returns-2 : tie.Need-returns-2
 returns-2 c = let a = c .before .before .before .before .args in sym (opening-none (a .t1) 0 (a .processors) (a .placing) (a .task) (c .if1 .left))
 

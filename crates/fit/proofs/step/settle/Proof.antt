@@ -3,45 +3,32 @@ use Rattle.fit.specs.Turns.{FoundBelow}
 use Rattle.fit.specs.Kinds.{Found}
 use Prim.Native.Nat.{_<_}
 use native.Mathlib.Omega.{arith}
-use mathlib.Core.Path.{_≡_, refl, sym, ap, _∙_, subst}
+use mathlib.Core.Path.{sym, ap, _∙_, subst}
 use borrow.Author.Needs.{needs}
 use Rattle.fit.proofs.step.settle.Statement.{statement}
 use Rattle.fit.proofs.step.settle.Tie as tie
-use Rattle.fit.proofs.step.settle.Reads as reads
-use Rattle.fit.proofs.step.settle.Lts as lts
-use Rattle.fit.proofs.state.Placing.put.Reads as put-reads
-use Rattle.fit.proofs.step.going_on.Reads as going-on-reads
-use Rattle.fit.proofs.step.open_for.Reads as open-for-reads
 
--- src/step.rt:55:19
 enum-known-found : tie.Need-enum-known-found
 enum-known-found c = search needs
 
--- src/step.rt:55:60
 cast-put : tie.Need-cast-put
 cast-put c = let small : c .before .found .given .0 .0 < 32 = subst (λ (f : Found). FoundBelow f 32) (c .before .found .given .1) (c .before .before .before .pre .1) in omega arith
 
--- src/step.rt:55:42
 put-requires : tie.Need-put-requires
 put-requires c κs = search needs
 
--- src/step.rt:55:33
 going-on-requires : tie.Need-going-on-requires
 going-on-requires c κs = search needs
 
--- src/step.rt:56:27
 enum-told : tie.Need-enum-told
 enum-told c = search needs
 
--- src/step.rt:56:27
 open-for-requires : tie.Need-open-for-requires
 open-for-requires c κs = search needs
 
--- src/step.rt:44:1
 returns : tie.Need-returns
 returns c = let a = c .before .before .before .before .before .args in cc (ap (settled (a .table) (a .processors) (a .placing) (a .task)) (c .before .before .before .found .given .1))
 
--- src/step.rt:44:1
 returns-2 : tie.Need-returns-2
 returns-2 c = let a = c .before .before .before .args in c .open-for .ensures ∙ sym (ap (settled (a .table) (a .processors) (a .placing) (a .task)) (c .before .enum-told .given .1))
 
