@@ -62,12 +62,14 @@ module _ (o : Order) (b : Build) (yes-said : Accepted o b) where
       record {
         one-job = serves-one (o .table) (partitionsOf b) (o .tasks) (b .places) wide-and-apart releases;
         own-partition = λ tick task release runs.
-            (let own = runs-own-jobs (o .table) (partitionsOf b) (o .tasks) releases tick task release runs in
-            (sym (own .its-partition), record {
-              enough = λ k below. occupies-width (o .table) (partitionsOf b) (b .places) task k below .0;
-              different = λ k l e. omega arith;
-              of-its-own = λ processor on. occupies-own (o .table) (partitionsOf b) (o .tasks) (b .places) wide-and-apart task processor (own .known) on;
-            }));
+            (let own = runs-own-jobs (o .table) (partitionsOf b) (o .tasks) releases tick task release runs in (
+              sym (own .its-partition),
+              record {
+                enough = λ k below. occupies-width (o .table) (partitionsOf b) (b .places) task k below .0;
+                different = λ k l e. omega arith;
+                of-its-own = λ processor on. occupies-own (o .table) (partitionsOf b) (o .tasks) (b .places) wide-and-apart task processor (own .known) on;
+              },
+            ));
         in-time = λ task release some.
             (let known = legal .known release task some in
             let f = passing-is-in-time (o .table) (partitionsOf b) (o .tasks) task _ (yes-said .sound) known (yes-said .passing task known) releases legal release some in

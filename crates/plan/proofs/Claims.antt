@@ -69,10 +69,10 @@ module _ (order output : List ℕ) (answer : Answer) (after : List ℕ) (count :
 pub plans-only-counted-front : PlansOnlyCountedFront
 plans-only-counted-front order output answer after p =
     rw (p .written) (
-      only-counted-front answer (buildBytes (fittedOf (orderAt order) .build)) output
-      (λ count e.
-        let size = counted order output answer after count p e in
-        (length-right (fittedOf (orderAt order) .build) ∙ sym size, subst (_≤ length output) (sym size) (room order output answer after count p e)))
+    only-counted-front answer (buildBytes (fittedOf (orderAt order) .build)) output
+    (λ count e.
+    let size = counted order output answer after count p e in
+    (length-right (fittedOf (orderAt order) .build) ∙ sym size, subst (_≤ length output) (sym size) (room order output answer after count p e)))
     )
 
 pub sound-is-planned : SoundIsPlanned
