@@ -8,7 +8,6 @@ use lib.Seq.{sets-eq, take-at, drop-at, drop-drop}
 use Rattle.laws.specs.Joined.{joined}
 use Rattle.laws.proofs.Joined.{joined-none, joined-more, length-joined}
 use Rattle.model.specs.declared.order.Task.{Task}
-use Rattle.model.specs.declared.order.Order.{Order}
 use Rattle.model.specs.Limits.{taskOf}
 use Rattle.jefkantu.specs.Surface.{taskNumbers, orderNumbers}
 

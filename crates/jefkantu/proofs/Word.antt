@@ -1,13 +1,13 @@
 -- The word tells the answer: number, place and count come out of it by division.
-use mathlib.Core.Path.{_≡_, refl, sym, ap, _∙_}
-use Prim.Native.Nat.{ℕ, _+_, _*_, _/_, _%_, _≤_, _<_}
+use mathlib.Core.Path.{_≡_}
+use Prim.Native.Nat.{ℕ, _+_, _*_, _≤_, _<_}
 use native.Mathlib.Omega.{arith}
 use Rattle.model.specs.declared.answer.Answer.{Answer}
 use Rattle.model.specs.declared.answer.Answer.the-variants.{Done, Refused}
 use Rattle.model.specs.declared.answer.Refusal.{Refusal}
 use Rattle.model.specs.declared.answer.Refusal.the-variants.{OrderShort, OrderVersion, Processors, Tasks, OrderLength, HeaderSpare, TaskSpare, Width, Period, Deadline, RunTime, FirstFit, Output, Columns, BuildShort, BuildHeader, BuildLength, BuildSpare, PartitionPlace, TaskPartition, Rank, Window, Start, Late, Response, ScriptLength, RecordSpare, RecordTask, RecordOrder, JobLength, ReleaseGap, FinishPlaces}
-use Rattle.model.specs.Answer.{causeNumber, causePlace, numberOf, placeOf, countOf}
-use Rattle.jefkantu.specs.Word.{answerWord, wordNumber, wordPlace, wordCount, Tells, FitsWord, WordTells}
+use Rattle.model.specs.Answer.{causeNumber, numberOf, placeOf, countOf}
+use Rattle.jefkantu.specs.Word.{answerWord, wordNumber, wordPlace, wordCount, WordTells}
 
 pub cause-number-small : (cause : Refusal) → causeNumber cause ≤ 46
 unfolding causeNumber

@@ -1,12 +1,11 @@
 -- What each function of the C surface promises: the word it answers, and all that the caller's memory holds afterwards.
 use Prim.Native.Nat.{ℕ}
 use mathlib.Core.Path.{_≡_}
-use mathlib.Core.List.{List, [], _∷_, _++_}
+use mathlib.Core.List.{List, [], _∷_}
 use lib.ListN.{length}
 use Rattle.laws.specs.Joined.{joined}
 use Rattle.model.specs.declared.order.Task.{Task}
 use Rattle.model.specs.declared.order.Order.{Order}
-use Rattle.model.specs.declared.answer.Reading.{Reading}
 use Rattle.model.specs.declared.answer.Answer.{Answer}
 use Rattle.model.specs.declared.answer.Answer.the-variants.{Done, Refused}
 use Rattle.model.specs.Answer.{outputAfter}

@@ -5,57 +5,41 @@ use Rattle.model.specs.Answer.{numberOf, placeOf, countOf}
 use Rattle.jefkantu.specs.Word.{answerWord}
 use Rattle.jefkantu.proofs.answer_word.Statement.{statement}
 use Rattle.jefkantu.proofs.answer_word.Tie as tie
-use Rattle.jefkantu.proofs.answer_word.Reads as reads
-use Rattle.jefkantu.proofs.answer_word.Lts as lts
-use Rattle.jefkantu.proofs.cause_number.Reads as cause-number-reads
-use Rattle.jefkantu.proofs.cause_place.Reads as cause-place-reads
 
--- src/lib.rt:99:22
 enum-known-answer : tie.Need-enum-known-answer
 enum-known-answer c = search needs
 
--- src/lib.rt:99:32
 mul-result : tie.Need-mul-result
 mul-result c = search needs
 
--- src/lib.rt:99:52
 cast-result : tie.Need-cast-result
 cast-result c = search needs
 
--- src/lib.rt:99:52
 mul-result-2 : tie.Need-mul-result-2
 mul-result-2 c = search needs
 
--- src/lib.rt:99:32
 add-result : tie.Need-add-result
 add-result c = search needs
 
--- src/lib.rt:100:25
 enum-known-answer-2 : tie.Need-enum-known-answer-2
 enum-known-answer-2 c = search needs
 
--- src/lib.rt:100:35
 cause-number-requires : tie.Need-cause-number-requires
 cause-number-requires c κs = search needs
 
--- src/lib.rt:100:57
 cause-place-requires : tie.Need-cause-place-requires
 cause-place-requires c κs = search needs
 
--- src/lib.rt:100:57
 mul-result-3 : tie.Need-mul-result-3
 mul-result-3 c = search needs
 
--- src/lib.rt:100:35
 add-result-2 : tie.Need-add-result-2
 add-result-2 c = omega (arith, cause-number-small (c .before .before .before .answer2 .given .0 .0))
 
--- src/lib.rt:95:1
 returns : tie.Need-returns
 unfolding answerWord numberOf placeOf countOf
 returns c = rw (c .before .answer .given .1) (omega arith)
 
--- src/lib.rt:95:1
 returns-2 : tie.Need-returns-2
 unfolding answerWord numberOf placeOf countOf
 returns-2 c = rw (c .before .before .before .answer2 .given .1) (omega (arith, c .before .cause-number .ensures, c .cause-place .ensures .0))

@@ -1,14 +1,11 @@
 use borrow.Author.Needs.{needs}
-use Prim.Native.Nat.{ℕ, _≤_, _-_}
-use mathlib.Core.Path.{_≡_, refl, sym, ap, _∙_}
-use mathlib.Core.List.{List, _∷_}
+use Prim.Native.Nat.{_≤_, _-_}
+use mathlib.Core.Path.{_≡_, ap, _∙_}
 use native.Mathlib.Omega.{arith}
-use lib.ListN.{replicate, getD, length-set}
-use Rattle.jefkantu.proofs.Numbers.{numbersTo, numbers-none, numbers-length, numbers-more, numbers-all}
+use lib.ListN.{getD}
+use Rattle.jefkantu.proofs.Numbers.{numbersTo, numbers-none, numbers-more, numbers-all}
 use Rattle.jefkantu.proofs.order_numbers.Statement.{statement}
 use Rattle.jefkantu.proofs.order_numbers.Tie as tie
-use Rattle.jefkantu.proofs.order_numbers.Reads as reads
-use Rattle.jefkantu.proofs.order_numbers.Lts as lts
 
 abbrev Inv-loop : tie.InvT-loop
 Inv-loop table numbers₀ i₀ numbers i = (i ≤ 32) × (numbers ≡ numbersTo (getD numbers₀ 0 0) (getD numbers₀ 1 0) table i)
@@ -16,94 +13,72 @@ Inv-loop table numbers₀ i₀ numbers i = (i ≤ 32) × (numbers ≡ numbersTo 
 abbrev μ-loop : tie.MeasureT-loop
 μ-loop table numbers₀ i₀ numbers i = 32 - i
 
--- src/lib.rt:110:5
 array-write-numbers : tie.Need-array-write-numbers Inv-loop μ-loop
 array-write-numbers c = search needs
 
--- src/lib.rt:111:5
 array-write-numbers-2 : tie.Need-array-write-numbers-2 Inv-loop μ-loop
 array-write-numbers-2 c = search needs
 
--- src/lib.rt:113:5
 loop-holds : tie.Need-loop-holds Inv-loop μ-loop
 loop-holds c = (omega arith, numbers-none (c .before .args .order .processors) (c .before .args .order .tasks) (c .before .args .order .table))
 
--- src/lib.rt:114:20
 mul-task : tie.Need-mul-task Inv-loop μ-loop
 mul-task c = search needs
 
--- src/lib.rt:114:20
 array-copy-out-task : tie.Need-array-copy-out-task Inv-loop μ-loop
 array-copy-out-task c = search needs
 
--- src/lib.rt:115:22
 mul-at : tie.Need-mul-at Inv-loop μ-loop
 mul-at c = search needs
 
--- src/lib.rt:115:18
 add-at : tie.Need-add-at Inv-loop μ-loop
 add-at c = search needs
 
--- src/lib.rt:116:9
 mul-numbers : tie.Need-mul-numbers Inv-loop μ-loop
 mul-numbers c = search needs
 
--- src/lib.rt:116:9
 array-write-numbers-3 : tie.Need-array-write-numbers-3 Inv-loop μ-loop
 array-write-numbers-3 c = search needs
 
--- src/lib.rt:117:17
 add-numbers : tie.Need-add-numbers Inv-loop μ-loop
 add-numbers c = search needs
 
--- src/lib.rt:117:9
 mul-numbers-2 : tie.Need-mul-numbers-2 Inv-loop μ-loop
 mul-numbers-2 c = search needs
 
--- src/lib.rt:117:9
 array-write-numbers-4 : tie.Need-array-write-numbers-4 Inv-loop μ-loop
 array-write-numbers-4 c = search needs
 
--- src/lib.rt:118:17
 add-numbers-2 : tie.Need-add-numbers-2 Inv-loop μ-loop
 add-numbers-2 c = search needs
 
--- src/lib.rt:118:9
 mul-numbers-3 : tie.Need-mul-numbers-3 Inv-loop μ-loop
 mul-numbers-3 c = search needs
 
--- src/lib.rt:118:9
 array-write-numbers-5 : tie.Need-array-write-numbers-5 Inv-loop μ-loop
 array-write-numbers-5 c = search needs
 
--- src/lib.rt:119:17
 add-numbers-3 : tie.Need-add-numbers-3 Inv-loop μ-loop
 add-numbers-3 c = search needs
 
--- src/lib.rt:119:9
 mul-numbers-4 : tie.Need-mul-numbers-4 Inv-loop μ-loop
 mul-numbers-4 c = search needs
 
--- src/lib.rt:119:9
 array-write-numbers-6 : tie.Need-array-write-numbers-6 Inv-loop μ-loop
 array-write-numbers-6 c = search needs
 
--- src/lib.rt:120:9
 add-i : tie.Need-add-i Inv-loop μ-loop
 add-i c = search needs
 
--- src/lib.rt:113:5
 loop-less : tie.Need-loop-less Inv-loop μ-loop
 loop-less c = search needs
 
--- src/lib.rt:113:5
 loop-again : tie.Need-loop-again Inv-loop μ-loop
 loop-again c =
     let at = c .before .before in
     let o = at .before .before .args .order in
     (omega arith, rw (at .loop .inv .1) (numbers-more (o .processors) (o .tasks) (o .table) (at .loop .i) (c .before .loop-test .taken)))
 
--- src/lib.rt:105:1
 returns : tie.Need-returns Inv-loop μ-loop
 returns c =
     let at = c .before in
