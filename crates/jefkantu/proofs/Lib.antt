@@ -1,0 +1,4 @@
+pub mod Numbers
+pub mod Word
+pub mod Places
+pub mod Surface
