@@ -20,6 +20,8 @@ extern "C" {
 
 // Every call answers one word: number + place * 2^16 + count * 2^32.
 
+// What a call writes to may overlap nothing else that the call is lent.
+
 // The number of an answer: 0 is done, any other is the cause of the refusal.
 static inline uint32_t jefkantu_number(uint64_t word) { return (uint32_t)(word % 65536); }
 

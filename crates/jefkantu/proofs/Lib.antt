@@ -2,3 +2,4 @@ pub mod Numbers
 pub mod Word
 pub mod Places
 pub mod Surface
+pub mod Builds

@@ -13,11 +13,11 @@ use Rattle.model.specs.declared.answer.Answer.{Answer}
 use Rattle.model.specs.declared.answer.Answer.the-variants.{Done, Refused}
 use Rattle.model.specs.Answer.{causePlace, placeOf, countOf}
 use Rattle.model.specs.Limits.{orderLength, taskOf}
-use Rattle.model.specs.Rules.{Rule, firstBroken, allHold, taskRules, rangeRules}
+use Rattle.model.specs.Rules.{Rule, firstBroken, allHold, taskRules, rangeRules, roomRules}
 use Rattle.order.specs.declared.Header.{Header}
 use Rattle.order.specs.Order.{headerOf, orderAt, headerRules, spareRules, layoutRules, orderRules, readingOf, readOrder}
 use Rattle.order.proofs.Rules.{tasks-small}
-use Rattle.order_out.specs.Write.{columnOrder, columnRules, roomRules, writeRules, writeAnswer}
+use Rattle.order_out.specs.Write.{columnOrder, columnRules, writeRules, writeAnswer}
 use Rattle.order_out.proofs.Rules.{columns-passed}
 use Rattle.jefkantu.specs.Word.{FitsWord, WordTells}
 use Rattle.jefkantu.specs.Surface.{ReadTells, WriteTells}

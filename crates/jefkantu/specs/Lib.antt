@@ -1,2 +1,3 @@
 pub mod Word
 pub mod Surface
+pub mod Builds

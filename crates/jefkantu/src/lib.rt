@@ -7,6 +7,7 @@ ghost use Prim.Native.Nat.{_≤_};
 ghost use Rattle.model.specs.Answer.{causeNumber, causePlace};
 ghost use Rattle.jefkantu.specs.Word.{answerWord};
 ghost use Rattle.jefkantu.specs.Surface.{orderNumbers, ReadsOrder, WritesOrder};
+ghost use Rattle.jefkantu.specs.Builds.{PlansBuild, ChecksBuild};
 
 // "65,535 where none applies"
 const NO_PLACE: u64 = 65_535;
@@ -150,5 +151,23 @@ pub extern "C" fn jefkantu_write_order(
     ensures { λ r. ⌜ WritesOrder processors (now (widths .entry)) (now (periods .entry)) (now (deadlines .entry)) (now (runs .entry)) (now (out .entry)) r (now (out .exit)) ⌝ }
 {
     let answer = order_out::write_order(processors, widths, periods, deadlines, runs, out);
+    answer_word(answer)
+}
+
+// Plans an order: its build into the front of the output.
+#[no_mangle]
+pub extern "C" fn jefkantu_plan(order: &[u8], out: &mut [u8]) -> u64
+    ensures { λ r. ⌜ PlansBuild (now (order .entry)) (now (out .entry)) r (now (out .exit)) ⌝ }
+{
+    let answer = plan::plan(order, out);
+    answer_word(answer)
+}
+
+// Checks a build against an order.
+#[no_mangle]
+pub extern "C" fn jefkantu_check(order: &[u8], build: &[u8]) -> u64
+    ensures { λ r. ⌜ ChecksBuild (now (order .entry)) (now (build .entry)) r ⌝ }
+{
+    let answer = inspect::check(order, build);
     answer_word(answer)
 }
