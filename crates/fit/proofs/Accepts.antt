@@ -51,9 +51,10 @@ module _ (table : List Task) (n : ℕ) (partitions : List ℕ) (i : ℕ) where
 
 pub accepts-means : AcceptsMeans
 unfolding accepts
-accepts-means table n partitions i k =
-    (λ e j l m. pass-says (verdict table (set partitions i k) n j) (members-say table n (set partitions i k) i e j l m),
-    λ each. say-members table n (set partitions i k) i (λ j l m. ap doesPass (each j l m .1)))
+accepts-means table n partitions i k = (
+  λ e j l m. pass-says (verdict table (set partitions i k) n j) (members-say table n (set partitions i k) i e j l m),
+  λ each. say-members table n (set partitions i k) i (λ j l m. ap doesPass (each j l m .1)),
+)
 
 pub accepts-are : (table : List Task) (n : ℕ) (partitions : List ℕ) (i k : ℕ) → accepts table n partitions i k ≡ membersPass table n (set partitions i k) i
 unfolding accepts

@@ -148,11 +148,10 @@ module _ (order : Order) (limits : WithinLimits order) where
       pub loop-more : (count : ℕ) → o .answer ≡ Done count → Stands table n M (placed + 1) (o .placing) × (steps table n M (n - (placed + 1)) (o .placing) ≡ firstFit table n M)
       loop-more count e =
           let done = ap (λ (x : Outcome). x .answer) (sym stepped) ∙ e in
-          let same = ap (λ (x : Outcome). x .placing) stepped in
-          (
+          let same = ap (λ (x : Outcome). x .placing) stepped in (
             subst (Stands table n M (placed + 1)) (sym same) (stands-next table n M sound widths placed s count is early done),
             ap (steps table n M (n - (placed + 1))) same
-            ∙ (sym (steps-next table n M (n - (placed + 1)) s count done) ∙ (ap (λ (k : ℕ). steps table n M k s) (sym left) ∙ on)),
+                ∙ (sym (steps-next table n M (n - (placed + 1)) s count done) ∙ (ap (λ (k : ℕ). steps table n M k s) (sym left) ∙ on)),
           )
 
 pub first-fit-places : FirstFitPlaces

@@ -166,7 +166,7 @@ module _ (table : List Task) (n : ℕ) (partitions : List ℕ) (places : List Pa
             elim (ℕ-discrete j i) [
               | yes e ↦ omega (arith, ap (widthOf table) e, ap (λ (x : ℕ). volumeOf more (partitionOf (set partitions i k) x)) e, ap (volumeOf more) (put-here partitions i k here))
               | no away ↦ (let before = sym (put-unplaced partitions i k here j away) ∙ p in
-              omega (arith, ap (volumeOf more) (put-other partitions i k here j away), same (partitionOf partitions j) (in-one j l before), was .for-members j l before))
+                  omega (arith, ap (volumeOf more) (put-other partitions i k here j away), same (partitionOf partitions j) (in-one j l before), was .for-members j l before))
             ];
         for-others = λ j l p h lh.
             (let away : j ≡ i → ⊥ = λ e. clash (sym (put-placed partitions i k here small) ∙ (ap (isUnplaced (set partitions i k)) (sym e) ∙ p)) in

@@ -25,7 +25,12 @@ fn going_on(placing: Placing) -> Outcome
 }
 
 // A new partition for the task if so many processors are left, else its refusal.
-fn open_for(table: [Task; Order::MOST_TASKS], placing: Placing, processors: u32, task: usize) -> Outcome
+fn open_for(
+    table: [Task; Order::MOST_TASKS],
+    placing: Placing,
+    processors: u32,
+    task: usize,
+) -> Outcome
     requires { ⌜ (task < 32) × (placing .opened < 32) × (placing .used ≤ processors) × (processors ≤ 64) ⌝ }
     ensures { λ r. ⌜ r ≡ opening table processors placing task ⌝ }
 {
@@ -58,7 +63,12 @@ fn settle(
 }
 
 // The turn of one task.
-fn step(table: [Task; Order::MOST_TASKS], placing: Placing, tasks: usize, processors: u32) -> Outcome
+fn step(
+    table: [Task; Order::MOST_TASKS],
+    placing: Placing,
+    tasks: usize,
+    processors: u32,
+) -> Outcome
     requires { ⌜ Sound table tasks × (placing .opened < 32) × (placing .used ≤ processors) × (processors ≤ 64) ⌝ }
     ensures { λ r. ⌜ r ≡ stepOf table tasks processors placing ⌝ }
 {
