@@ -1,6 +1,6 @@
 -- A sum grows with its bound.
 use mathlib.Core.Path.{ap}
-use Prim.Native.Nat.{ℕ, zero, suc, _+_, _≤_, _<_}
+use Prim.Native.Nat.{ℕ, zero, suc, _≤_}
 use native.Mathlib.Nat.{le-antisymm}
 use native.Mathlib.Decide.{decLe}
 use native.Mathlib.Omega.{arith}

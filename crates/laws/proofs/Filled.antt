@@ -1,11 +1,10 @@
 -- What stands in a table that was filled from the front, before and past its filled places.
-use mathlib.Core.Path.{_≡_, refl, sym, ap, _∙_}
-use mathlib.Core.List.{List, [], _∷_, _++_}
+use mathlib.Core.Path.{_≡_, refl, ap, _∙_}
 use Prim.Native.Nat.{ℕ, zero, suc, _+_, _-_, _≤_, _<_}
 use native.Mathlib.Omega.{arith}
-use lib.ListN.{length, getD, replicate, List·getD-append}
+use lib.ListN.{getD, replicate, List·getD-append}
 use lib.Seq.{getD-append-add}
-use Rattle.laws.specs.Joined.{joined, listed, filled}
+use Rattle.laws.specs.Joined.{listed, filled}
 use Rattle.laws.proofs.Joined.{length-listed, getD-listed}
 
 module _ {A : Type 0} where

@@ -1,4 +1,4 @@
-use Rattle.fit.proofs.Claims.{loop-start, loop-stop, loop-more, loop-done}
+use Rattle.fit.proofs.Loop.{loop-start, loop-stop, loop-more, loop-done}
 use Rattle.demand.proofs.Within.{limits-sound}
 use native.Mathlib.Omega.{arith}
 use Rattle.fit.proofs.Standing.{Stands}
