@@ -1,9 +1,9 @@
 -- What first fit's placing, refusal and build say: the claims of specs/Claims.antt about a whole order.
-use mathlib.Core.Path.{_≡_, sym, ap, ap₂, _∙_, subst}
+use mathlib.Core.Path.{_≡_, sym, ap, _∙_, subst}
 use mathlib.Core.Bool.{false}
 use mathlib.Core.List.{List}
 use mathlib.Core.Logic.{_⊎_, inl, inr}
-use Prim.Native.Nat.{ℕ, suc, _+_, _-_, _≤_, _<_}
+use Prim.Native.Nat.{ℕ, _+_, _-_, _≤_, _<_}
 use native.Mathlib.Omega.{arith}
 use Rattle.laws.proofs.Sums.{sum-more}
 use Rattle.laws.proofs.Growth.{sum-grows}
@@ -12,14 +12,14 @@ use Rattle.demand.specs.Priority.{rank}
 use Rattle.demand.specs.Test.{Sound, verdict}
 use Rattle.demand.proofs.Membership.{rank-same, verdict-same}
 use Rattle.demand.proofs.Within.{limits-sound}
-use Rattle.fit.specs.Kinds.{Task, Order, Partition, Done, Refused, Refusal, FirstFit, Placing, Outcome}
+use Rattle.fit.specs.Kinds.{Task, Order, Partition, Done, Refused, FirstFit, Placing, Outcome}
 use Rattle.fit.specs.Turns.{widthOf, partitionOf, isUnplaced}
-use Rattle.fit.specs.Steps.{nothingPlaced, goingOn, refusing, step, steps, firstFit}
+use Rattle.fit.specs.Steps.{nothingPlaced, goingOn, refusing, steps, firstFit}
 use Rattle.fit.specs.Claims.{volumeOf, Placed, FirstFitPlaces, RefusedIn, FirstFitRefuses, FirstFitEnds}
 use Rattle.fit.proofs.Put.{in-same, none-waits}
 use Rattle.fit.proofs.Accepts.{pass-says}
 use Rattle.fit.proofs.Standing.{Stands, stands-none}
-use Rattle.fit.proofs.Steps.{steps-none, steps-end, steps-next, stands-next, Ends, all-placed, one-refused, ends}
+use Rattle.fit.proofs.Steps.{steps-none, Ends, all-placed, one-refused, ends}
 
 -- all tasks are placed
 pub placed-all : (table : List Task) (n M : ℕ) (s : Placing) → 1 ≤ n → Stands table n M n s → Placed table n M (s .partitions) (s .places) (s .opened)
@@ -125,34 +125,6 @@ module _ (order : Order) (limits : WithinLimits order) where
       go : End → ((s : Placing) × (steps table n M n nothingPlaced ≡ goingOn s)) ⊎ ((s : Placing) × ((i : ℕ) × (steps table n M n nothingPlaced ≡ refusing s i)))
       go (all-placed t is p) = inl (t, p)
       go (one-refused t i is p) = inr (t, (i, p))
-
-  -- the code's loop: before, in and after its turns
-  pub loop-start : (s : Placing) → s ≡ nothingPlaced → Stands table n M 0 s × (steps table n M (n - 0) s ≡ firstFit table n M)
-  unfolding firstFit
-  loop-start s e = (subst (Stands table n M 0) (sym e) start, ap₂ (λ (k : ℕ) (x : Placing). steps table n M k x) (omega arith) e)
-
-  module _ (placed : ℕ) (s : Placing) (is : Stands table n M placed s) (on : steps table n M (n - placed) s ≡ firstFit table n M) where
-    pub loop-done : n ≤ placed → placed ≤ n → goingOn s ≡ firstFit table n M
-    loop-done a b = sym (steps-none table n M s) ∙ (ap (λ (k : ℕ). steps table n M k s) (omega arith) ∙ on)
-
-    module _ (early : placed < n) (o : Outcome) (stepped : o ≡ step table n M s) where
-      left : n - placed ≡ suc (n - (placed + 1))
-      left = omega arith
-
-      pub loop-stop : (cause : Refusal) → o .answer ≡ Refused cause → o ≡ firstFit table n M
-      loop-stop cause e =
-          stepped
-          ∙ (sym (steps-end table n M (n - (placed + 1)) s cause (ap (λ (x : Outcome). x .answer) (sym stepped) ∙ e))
-          ∙ (ap (λ (k : ℕ). steps table n M k s) (sym left) ∙ on))
-
-      pub loop-more : (count : ℕ) → o .answer ≡ Done count → Stands table n M (placed + 1) (o .placing) × (steps table n M (n - (placed + 1)) (o .placing) ≡ firstFit table n M)
-      loop-more count e =
-          let done = ap (λ (x : Outcome). x .answer) (sym stepped) ∙ e in
-          let same = ap (λ (x : Outcome). x .placing) stepped in (
-            subst (Stands table n M (placed + 1)) (sym same) (stands-next table n M sound widths placed s count is early done),
-            ap (steps table n M (n - (placed + 1))) same
-                ∙ (sym (steps-next table n M (n - (placed + 1)) s count done) ∙ (ap (λ (k : ℕ). steps table n M k s) (sym left) ∙ on)),
-          )
 
 pub first-fit-places : FirstFitPlaces
 first-fit-places order s limits e =

@@ -1,8 +1,8 @@
 -- The numbers of the build fit their fields.
-use mathlib.Core.Path.{_≡_, refl, sym, ap, _∙_, subst}
+use mathlib.Core.Path.{_≡_, sym, subst}
 use mathlib.Core.List.{List}
 use mathlib.Core.Logic.{_⊎_, inl, inr}
-use Prim.Native.Nat.{ℕ, _+_, _^_, _≤_, _<_}
+use Prim.Native.Nat.{ℕ, _<_}
 use native.Mathlib.Omega.{arith}
 use Rattle.laws.specs.Joined.{listed}
 use Rattle.laws.proofs.Joined.{getD-listed}
@@ -11,11 +11,11 @@ use Rattle.model.specs.Rules.{WithinLimits}
 use Rattle.demand.proofs.Priority.{rank-less}
 use Rattle.demand.proofs.Meaning.{every-verdict-means}
 use Rattle.demand.proofs.Within.{limits-sound}
-use Rattle.fit.specs.Kinds.{Order, Build, Fitted, FirstFit, Placing}
+use Rattle.fit.specs.Kinds.{Order, Build, Fitted, Placing}
 use Rattle.fit.specs.Turns.{partitionOf}
 use Rattle.fit.specs.Steps.{goingOn, refusing, firstFitOf}
 use Rattle.fit.specs.Recorded.{fittedOf, buildOf}
-use Rattle.fit.specs.Claims.{volumeOf, processorOf, memberAt, Built, InFields, FittedInFields}
+use Rattle.fit.specs.Claims.{memberAt, Built, InFields, FittedInFields}
 use Rattle.fit.proofs.Claims.{one-of-two}
 use Rattle.fit.proofs.Built.{built, fitted-done, fitted-refused}
 

@@ -4,6 +4,7 @@ pub mod Accepts
 pub mod Standing
 pub mod Steps
 pub mod Claims
+pub mod Loop
 pub mod Built
 pub mod Fields
 pub mod Points

@@ -1,6 +1,6 @@
 -- P1 and P2 of document 01, of the order's numbers: (m, T, D, C) each.
 use mathlib.Core.Path.{_≡_, refl}
-use mathlib.Core.List.{List, [], _∷_, _++_}
+use mathlib.Core.List.{List, _∷_}
 use Prim.Native.Nat.{ℕ}
 use lib.ListN.{replicate}
 use Rattle.laws.specs.Sums.{sum, largest}
@@ -11,7 +11,7 @@ use Rattle.search.specs.Smallest.{smallest, firstOf}
 use Rattle.demand.specs.Priority.{inPartition, outranks, higher, lower, rank}
 use Rattle.demand.specs.Releases.{cost, ceilDiv, releasesIn, releasesBy, jobs}
 use Rattle.demand.specs.Test.{firstMet, blocking, windowDemand, window, higherWork, startDemand, start, largestFound, response, worst, verdict}
-use Rattle.fit.specs.Kinds.{Task, Partition, Member, Build, Done, Refused, FirstFit, Fitted}
+use Rattle.fit.specs.Kinds.{Task, Partition, Member, Build, Done, Refused, FirstFit}
 use Rattle.fit.specs.Turns.{isUnplaced, comesBefore, nextTask}
 use Rattle.fit.specs.Steps.{memberPasses, membersPass, accepts, lowestAccepting, opening, step, unlessRefused, steps, firstFit}
 use Rattle.fit.specs.Recorded.{memberOf, buildOf, recorded, fitted}

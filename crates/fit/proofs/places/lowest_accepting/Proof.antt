@@ -25,7 +25,10 @@ cast-t9 : tie.Need-cast-t9 Inv-loop μ-loop
 cast-t9 c = search needs
 
 returns : tie.Need-returns Inv-loop μ-loop
-returns c = let a = c .before .before .before .before .args in let l = c .before .before .before .loop in sym (first-found (accepts (a .table) (a .tasks) (a .partitions) (a .task)) (a .opened) (l .partition) (record { below = c .before .before .loop-test .taken; holds = sym (c .before .accepts .ensures) ∙ c .if1 .taken; earlier = l .inv .1 }))
+returns c =
+    let a = c .before .before .before .before .args in
+    let l = c .before .before .before .loop in
+    sym (first-found (accepts (a .table) (a .tasks) (a .partitions) (a .task)) (a .opened) (l .partition) (record { below = c .before .before .loop-test .taken; holds = sym (c .before .accepts .ensures) ∙ c .if1 .taken; earlier = l .inv .1 }))
 
 add-partition : tie.Need-add-partition Inv-loop μ-loop
 add-partition c = search needs
@@ -34,10 +37,15 @@ loop-less : tie.Need-loop-less Inv-loop μ-loop
 loop-less c = search needs
 
 loop-again : tie.Need-loop-again Inv-loop μ-loop
-loop-again c = let l = c .before .before .before .loop in (omega arith, below-more _ _ (l .inv .1) (sym (c .before .accepts .ensures) ∙ c .if1 .left))
+loop-again c =
+    let l = c .before .before .before .loop in
+    (omega arith, below-more _ _ (l .inv .1) (sym (c .before .accepts .ensures) ∙ c .if1 .left))
 
 returns-2 : tie.Need-returns-2 Inv-loop μ-loop
-returns-2 c = let a = c .before .before .args in let l = c .before .loop in sym (first-missing (accepts (a .table) (a .tasks) (a .partitions) (a .task)) (a .opened) (λ k m. l .inv .1 k (omega arith)))
+returns-2 c =
+    let a = c .before .before .args in
+    let l = c .before .loop in
+    sym (first-missing (accepts (a .table) (a .tasks) (a .partitions) (a .task)) (a .opened) (λ k m. l .inv .1 k (omega arith)))
 
 pub lowest-accepting-spec : {M : Type 1} → statement M
 lowest-accepting-spec =

@@ -14,7 +14,9 @@ members-of-requires c κs = search needs
 
 returns : tie.Need-returns
 unfolding buildOf
-returns c = let a = c .before .before .before .before .before .args in ap (λ (m : List Member). record { processors = a .order .processors; tasks = a .order .tasks; partitions = a .placing .opened; places = a .placing .places; members = m }) (c .members-of .ensures)
+returns c =
+    let a = c .before .before .before .before .before .args in
+    ap (λ (m : List Member). record { processors = a .order .processors; tasks = a .order .tasks; partitions = a .placing .opened; places = a .placing .places; members = m }) (c .members-of .ensures)
 
 pub build-of-spec : {M : Type 1} → statement M
 build-of-spec = tie.close (tie.spec cast-members-of members-of-requires returns)

@@ -19,13 +19,20 @@ enum-told : tie.Need-enum-told
 enum-told c = search needs
 
 build-of-requires : tie.Need-build-of-requires
-build-of-requires c κs = limits-sound (c .before .before .before .args .order) (c .before .before .before .pre)
+build-of-requires c κs =
+    limits-sound (c .before .before .before .args .order) (c .before .before .before .pre)
 
 returns : tie.Need-returns
-returns c = let o = c .before .before .before .before .before .args .order in ap (λ (x : Build). record { answer = Refused (c .before .before .answer .given .0 .0); build = x }) (c .empty .ensures) ∙ recorded-refused (o .table) (o .tasks) (o .processors) (c .before .before .before .before .place-all .result) (c .before .before .before .before .place-all .ensures) (c .before .before .answer .given .0 .0) (c .before .before .answer .given .1)
+returns c =
+    let o = c .before .before .before .before .before .args .order in
+    ap (λ (x : Build). record { answer = Refused (c .before .before .answer .given .0 .0); build = x }) (c .empty .ensures)
+    ∙ recorded-refused (o .table) (o .tasks) (o .processors) (c .before .before .before .before .place-all .result) (c .before .before .before .before .place-all .ensures) (c .before .before .answer .given .0 .0) (c .before .before .answer .given .1)
 
 returns-2 : tie.Need-returns-2
-returns-2 c = let o = c .before .before .before .before .args .order in ap (λ (x : Build). record { answer = Done 0; build = x }) (c .build-of .ensures) ∙ recorded-done (o .table) (o .tasks) (o .processors) (c .before .before .before .place-all .result) (c .before .before .before .place-all .ensures) (c .before .enum-told .given .0 .0) (c .before .enum-told .given .1)
+returns-2 c =
+    let o = c .before .before .before .before .args .order in
+    ap (λ (x : Build). record { answer = Done 0; build = x }) (c .build-of .ensures)
+    ∙ recorded-done (o .table) (o .tasks) (o .processors) (c .before .before .before .place-all .result) (c .before .before .before .place-all .ensures) (c .before .enum-told .given .0 .0) (c .before .enum-told .given .1)
 
 pub first-fit-spec : {M : Type 1} → statement M
 first-fit-spec =

@@ -21,7 +21,9 @@ zero-requires : tie.Need-zero-requires Inv-loop μ-loop
 zero-requires c κs = search needs
 
 loop-holds : tie.Need-loop-holds Inv-loop μ-loop
-loop-holds c = let a = c .before .args in (omega arith, ap (replicate 32) (c .zero .ensures) ∙ filled-none (memberOf (a .table) (a .partitions) (a .tasks)) zeroMember 32)
+loop-holds c =
+    let a = c .before .args in
+    (omega arith, ap (replicate 32) (c .zero .ensures) ∙ filled-none (memberOf (a .table) (a .partitions) (a .tasks)) zeroMember 32)
 
 member-of-requires : tie.Need-member-of-requires Inv-loop μ-loop
 member-of-requires c κs = search needs
@@ -39,10 +41,15 @@ loop-less : tie.Need-loop-less Inv-loop μ-loop
 loop-less c = search needs
 
 loop-again : tie.Need-loop-again Inv-loop μ-loop
-loop-again c = let a = c .before .before .before .before .args in (omega arith, cc (filled-more (memberOf (a .table) (a .partitions) (a .tasks)) zeroMember 32 (c .before .before .loop .task) (omega (arith, c .before .before .before .before .pre .few))))
+loop-again c =
+    let a = c .before .before .before .before .args in
+    (omega arith, cc (filled-more (memberOf (a .table) (a .partitions) (a .tasks)) zeroMember 32 (c .before .before .loop .task) (omega (arith, c .before .before .before .before .pre .few))))
 
 returns : tie.Need-returns Inv-loop μ-loop
-returns c = let a = c .before .before .before .args in c .before .loop .inv .1 ∙ ap (filled (memberOf (a .table) (a .partitions) (a .tasks)) zeroMember 32) (le-antisymm (c .before .loop .inv .0) (c .loop-test .left))
+returns c =
+    let a = c .before .before .before .args in
+    c .before .loop .inv .1
+    ∙ ap (filled (memberOf (a .table) (a .partitions) (a .tasks)) zeroMember 32) (le-antisymm (c .before .loop .inv .0) (c .loop-test .left))
 
 pub members-of-spec : {M : Type 1} → statement M
 members-of-spec =

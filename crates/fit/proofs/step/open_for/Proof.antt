@@ -25,13 +25,18 @@ going-on-requires : tie.Need-going-on-requires
 going-on-requires c κs = search needs
 
 returns : tie.Need-returns
-returns c = let a = c .before .before .before .before .before .before .before .args in c .going-on .ensures ∙ (ap goingOn (c .before .put .ensures ∙ ap (λ (s : Placing). put s (a .task) (a .placing .opened)) (c .before .before .open-next .ensures)) ∙ sym (opening-new (a .t1) 0 (a .processors) (a .placing) (a .task) (c .before .before .before .if1 .taken)))
+returns c =
+    let a = c .before .before .before .before .before .before .before .args in
+    c .going-on .ensures
+    ∙ (ap goingOn (c .before .put .ensures ∙ ap (λ (s : Placing). put s (a .task) (a .placing .opened)) (c .before .before .open-next .ensures)) ∙ sym (opening-new (a .t1) 0 (a .processors) (a .placing) (a .task) (c .before .before .before .if1 .taken)))
 
 cast-t15 : tie.Need-cast-t15
 cast-t15 c = search needs
 
 returns-2 : tie.Need-returns-2
-returns-2 c = let a = c .before .before .before .before .args in sym (opening-none (a .t1) 0 (a .processors) (a .placing) (a .task) (c .if1 .left))
+returns-2 c =
+    let a = c .before .before .before .before .args in
+    sym (opening-none (a .t1) 0 (a .processors) (a .placing) (a .task) (c .if1 .left))
 
 pub open-for-spec : {M : Type 1} → statement M
 open-for-spec =

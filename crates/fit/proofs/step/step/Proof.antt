@@ -24,18 +24,31 @@ enum-known-turn : tie.Need-enum-known-turn
 enum-known-turn c = search needs
 
 lowest-accepting-requires : tie.Need-lowest-accepting-requires
-lowest-accepting-requires c κs = let s = c .before .before .before .before .before in let a = s .args in (s .pre .0, subst (λ (f : Found). FoundBelow f (a .tasks)) (c .before .turn .given .1) (next-below (a .table) (a .placing .partitions) (a .tasks) (c .before .before .before .next-task .result) (c .before .before .before .next-task .ensures)))
+lowest-accepting-requires c κs =
+    let s = c .before .before .before .before .before in
+    let a = s .args in
+    (s .pre .0, subst (λ (f : Found). FoundBelow f (a .tasks)) (c .before .turn .given .1) (next-below (a .table) (a .placing .partitions) (a .tasks) (c .before .before .before .next-task .result) (c .before .before .before .next-task .ensures)))
 
 settle-requires : tie.Need-settle-requires
 unfolding lowestAccepting
-settle-requires c κs = let s = c .before .before .before .before .before .before in let a = s .args in let mine : c .before .before .turn .given .0 .0 < a .tasks = subst (λ (f : Found). FoundBelow f (a .tasks)) (c .before .before .turn .given .1) (next-below (a .table) (a .placing .partitions) (a .tasks) (c .before .before .before .before .next-task .result) (c .before .before .before .before .next-task .ensures)) in (omega (arith, s .pre .0 .few), below-all (c .lowest-accepting .result) (lowest-below (a .table) (a .tasks) (a .placing) (c .before .before .turn .given .0 .0) (c .lowest-accepting .result) (c .lowest-accepting .ensures)) (omega arith), s .pre .1, s .pre .2, s .pre .3)
+settle-requires c κs =
+    let s = c .before .before .before .before .before .before in
+    let a = s .args in
+    let mine : c .before .before .turn .given .0 .0 < a .tasks = subst (λ (f : Found). FoundBelow f (a .tasks)) (c .before .before .turn .given .1) (next-below (a .table) (a .placing .partitions) (a .tasks) (c .before .before .before .before .next-task .result) (c .before .before .before .before .next-task .ensures)) in
+    (omega (arith, s .pre .0 .few), below-all (c .lowest-accepting .result) (lowest-below (a .table) (a .tasks) (a .placing) (c .before .before .turn .given .0 .0) (c .lowest-accepting .result) (c .lowest-accepting .ensures)) (omega arith), s .pre .1, s .pre .2, s .pre .3)
 
 returns : tie.Need-returns
-returns c = let a = c .before .before .before .before .before .args in c .going-on .ensures ∙ sym (step-idle (a .table) (a .tasks) (a .processors) (a .placing) (sym (c .before .before .before .next-task .ensures) ∙ c .before .enum-told .given .1))
+returns c =
+    let a = c .before .before .before .before .before .args in
+    c .going-on .ensures
+    ∙ sym (step-idle (a .table) (a .tasks) (a .processors) (a .placing) (sym (c .before .before .before .next-task .ensures) ∙ c .before .enum-told .given .1))
 
 returns-2 : tie.Need-returns-2
 unfolding lowestAccepting
-returns-2 c = let a = c .before .before .before .before .before .before .before .args in c .settle .ensures ∙ (ap (settled (a .table) (a .processors) (a .placing) (c .before .before .before .turn .given .0 .0)) (c .before .lowest-accepting .ensures) ∙ sym (step-next (a .table) (a .tasks) (a .processors) (a .placing) (c .before .before .before .turn .given .0 .0) (sym (c .before .before .before .before .before .next-task .ensures) ∙ c .before .before .before .turn .given .1)))
+returns-2 c =
+    let a = c .before .before .before .before .before .before .before .args in
+    c .settle .ensures
+    ∙ (ap (settled (a .table) (a .processors) (a .placing) (c .before .before .before .turn .given .0 .0)) (c .before .lowest-accepting .ensures) ∙ sym (step-next (a .table) (a .tasks) (a .processors) (a .placing) (c .before .before .before .turn .given .0 .0) (sym (c .before .before .before .before .before .next-task .ensures) ∙ c .before .before .before .turn .given .1)))
 
 pub step-spec : {M : Type 1} → statement M
 step-spec =

@@ -9,7 +9,8 @@ zero-requires : tie.Need-zero-requires
 zero-requires c κs = search needs
 
 returns : tie.Need-returns
-returns c = ap (λ (p : Partition). record { partitions = replicate 32 32; places = replicate 32 p; opened = 0; used = 0 }) (c .zero .ensures)
+returns c =
+    ap (λ (p : Partition). record { partitions = replicate 32 32; places = replicate 32 p; opened = 0; used = 0 }) (c .zero .ensures)
 
 pub nothing-spec : {M : Type 1} → statement M
 nothing-spec = tie.close (tie.spec zero-requires returns)
