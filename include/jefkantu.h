@@ -15,6 +15,9 @@ extern "C" {
 // The length of the longest order, in bytes: 32 tasks.
 #define JEFKANTU_MOST_ORDER_BYTES 291
 
+// The length of the longest build, in bytes: 32 partitions and 32 tasks.
+#define JEFKANTU_MOST_BUILD_BYTES 195
+
 // An order read, as numbers: M, n, then m, T, D and C of 32 tasks, zero past the n tasks.
 #define JEFKANTU_ORDER_NUMBERS 130
 
@@ -42,6 +45,13 @@ uint64_t jefkantu_write_order(uint32_t processors,
                               const uint32_t *deadlines, size_t deadlines_len,
                               const uint32_t *runs, size_t runs_len,
                               uint8_t *out, size_t out_len);
+
+// Plans an order: the order's 1 to 10, then 11, then 12; success writes the build into the counted front of the output.
+uint64_t jefkantu_plan(const uint8_t *order, size_t order_len, uint8_t *out, size_t out_len);
+
+// Checks a build against an order: the order's 1 to 10, then 20 to 30; 0 says that every rule holds.
+uint64_t jefkantu_check(const uint8_t *order, size_t order_len,
+                        const uint8_t *build, size_t build_len);
 
 #ifdef __cplusplus
 }
