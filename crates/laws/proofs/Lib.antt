@@ -1,6 +1,8 @@
 pub mod Choice
-pub mod Front
-pub mod Joined
-pub mod Sums
 pub mod Division
+pub mod Front
+pub mod Growth
+pub mod Joined
+pub mod Only
 pub mod Picked
+pub mod Sums

@@ -1,0 +1,4 @@
+pub mod Over
+pub mod Window
+pub mod Arrivals
+pub mod Service

@@ -1,0 +1,10 @@
+pub mod Highest
+pub mod View
+pub mod Line
+pub mod Work
+pub mod Once
+pub mod Isolation
+pub mod Quiet
+pub mod Script
+pub mod Box
+pub mod Points

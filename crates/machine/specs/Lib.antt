@@ -1,0 +1,6 @@
+pub mod Kinds
+pub mod Step
+pub mod Pattern
+pub mod Box
+pub mod Claims
+pub mod Points
