@@ -1,0 +1,7 @@
+pub mod Fill
+pub mod Leaves
+pub mod Lines
+pub mod Choice
+pub mod Turn
+pub mod Tick
+pub mod Skip

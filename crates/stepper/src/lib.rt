@@ -201,9 +201,11 @@ impl Machine {
         requires { ⌜ Ready partitions deadlines tasks (now lengths) (now next) self releases ⌝ }
         ensures { λ r. ⌜ ((so : Ready partitions deadlines tasks (now (lengths .entry)) (now (next .entry)) self releases) → Follows (so .table) partitions tasks (so .script) r (suc (so .tick))) ⌝ }
     {
-        let waiting = join(self.waiting, releases, tasks);
+        let before = self.waiting;
+        let waiting = join(before, releases, tasks);
         let chosen = choose(partitions, deadlines, tasks, waiting);
-        let starts = starting(self.left, chosen);
+        let left = self.left;
+        let starts = starting(left, chosen);
         self.waiting = waiting;
         let served = self.serve(starts, lengths);
         served.leave(partitions, tasks, starts, next)
