@@ -1,24 +1,23 @@
 -- 40 to 46 hold exactly of accepted scripts.
-use mathlib.Core.Path.{_≡_, refl, sym, ap, _∙_, subst}
+use mathlib.Core.Path.{_≡_, refl, sym, ap, subst}
 use mathlib.Core.Bool.{Bool, true, false, _&&_, _||_}
 use mathlib.Core.List.{List}
-use mathlib.Core.Logic.{_⊎_, inl, inr}
-use Prim.Native.Nat.{ℕ, zero, suc, _+_, _*_, _/_, _%_, _≤_, _<_}
+use mathlib.Core.Logic.{inl, inr}
+use Prim.Native.Nat.{ℕ, zero, suc, _+_, _%_, _≤_, _<_}
 use native.Mathlib.Omega.{arith}
 use lib.ListN.{length}
-use lib.Dec.{leb, ltb, eqb, T}
+use lib.Dec.{ltb, eqb, T}
 use borrow.Author.Tests.{lt-ltb, ltb-true, eq-eqb, eqb-true, le-leb, leb-true}
-use Rattle.laws.specs.Joined.{joined}
 use Rattle.laws.proofs.Choice.{within-true, true-within}
 use Rattle.model.specs.declared.order.Task.{Task}
 use Rattle.model.specs.declared.build.Release.{Release}
 use Rattle.model.specs.Limits.{mostRecords, scriptLength}
-use Rattle.model.specs.Rules.{Rule, allHold}
+use Rattle.model.specs.Rules.{allHold}
 use Rattle.model.proofs.Rules.{scan-at, scan-all}
 use Rattle.demand.specs.Releases.{periodOf}
 use Rattle.machine.specs.Pattern.{runOf, recordOf, Before, LegalScript}
 use Rattle.machine.proofs.Script.{rise-by-neighbours}
-use Rattle.script.specs.Script.{releaseAt, spareAt, recordsIn, scriptOf, comesBefore, inOrder, earliest, releaseRules, recordRules, scriptRules, lengthRight}
+use Rattle.script.specs.Script.{releaseAt, spareAt, recordsIn, scriptOf, comesBefore, inOrder, earliest, releaseRules, recordRules, scriptRules}
 use Rattle.script.specs.Accepted.{Accepted, RulesOfScripts}
 use Rattle.script.proofs.Records.{script-length, script-record, Far, far-earliest, earliest-far}
 

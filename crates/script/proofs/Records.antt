@@ -1,9 +1,9 @@
 -- Laws of a script's records: those of the list are those of the bytes, their fields are small, and the tick from which a task may be released again.
-use mathlib.Core.Path.{_≡_, refl, sym, ap, _∙_, subst}
+use mathlib.Core.Path.{_≡_, refl, sym, ap, _∙_}
 use mathlib.Core.Bool.{Bool, true, false}
 use mathlib.Core.List.{List}
 use mathlib.Core.Logic.{⊎-elim}
-use Prim.Native.Nat.{ℕ, zero, suc, _+_, _-_, _^_, _≤_, _<_}
+use Prim.Native.Nat.{ℕ, zero, suc, _+_, _-_, _≤_, _<_}
 use native.Mathlib.Nat.{eq-or-lt-of-le, le-of-suc-le-suc}
 use native.Mathlib.Numerals.{add-one}
 use native.Mathlib.Omega.{arith}
@@ -18,7 +18,6 @@ use Rattle.bits.proofs.Field.{field-lt}
 use Rattle.model.specs.declared.order.Task.{Task}
 use Rattle.model.specs.declared.build.Release.{Release}
 use Rattle.model.specs.declared.order.Order.{Order}
-use Rattle.model.specs.Limits.{taskOf}
 use Rattle.model.specs.Rules.{WithinLimits}
 use Rattle.demand.specs.Releases.{periodOf}
 use Rattle.machine.specs.Pattern.{zeroRelease, recordOf}

@@ -1,19 +1,17 @@
 -- Laws of 40 to 46: the judge's branches.
-use mathlib.Core.Path.{_≡_, refl, sym, ap, _∙_}
-use mathlib.Core.Bool.{Bool, true, false, _&&_}
-use mathlib.Core.List.{List, [], _∷_}
+use mathlib.Core.Path.{_≡_}
+use mathlib.Core.Bool.{Bool}
+use mathlib.Core.List.{List}
 use Prim.Native.Nat.{ℕ, _+_, _%_, _≤_, _<_}
 use lib.ListN.{length, getD}
-use lib.Dec.{leb, eqb}
 use borrow.Author.Tests.{eq-eqb, ne-eqb, le-leb, lt-leb}
-use Rattle.laws.specs.Choice.{pick}
 use Rattle.laws.specs.Joined.{joined}
 use Rattle.model.specs.declared.order.Task.{Task}
 use Rattle.model.specs.declared.answer.Answer.the-variants.{Done, Refused}
 use Rattle.model.specs.declared.answer.Refusal.{Refusal}
 use Rattle.model.specs.declared.answer.Refusal.the-variants.{ScriptLength, FinishPlaces}
 use Rattle.model.specs.Limits.{mostRecords, scriptLength}
-use Rattle.model.specs.Rules.{Rule, firstBroken, allHold}
+use Rattle.model.specs.Rules.{firstBroken, allHold}
 use Rattle.model.proofs.Rules.{done-hold, refused-broken, broken-refused, scan-none, scan-more, scan-stop}
 use Rattle.model.specs.declared.build.Release.{Release}
 use Rattle.machine.specs.Pattern.{runOf}

@@ -1,5 +1,6 @@
 pub mod Fill
 pub mod Leaves
+pub mod Served
 pub mod Lines
 pub mod Choice
 pub mod Turn

@@ -2,7 +2,7 @@
 use Prim.Native.Nat.{ℕ, zero, suc, _+_, _≤_, _<_}
 use mathlib.Core.Path.{_≡_, refl, sym, _∙_, ap, subst, subst₂}
 use mathlib.Core.List.{List, [], _∷_, _++_, append-nil}
-use mathlib.Core.Logic.{_⊎_, inl, inr}
+use mathlib.Core.Logic.{inl, inr}
 use native.Mathlib.Decide.{decLe, decLt}
 use native.Mathlib.Omega.{arith}
 use lib.ListN.{length}
@@ -11,7 +11,7 @@ use Rattle.model.specs.declared.build.Release.{Release}
 use Rattle.machine.specs.Step.{Job, job, released}
 use Rattle.machine.specs.Pattern.{recordOf, patternOf, Before, LegalScript}
 use Rattle.machine.proofs.Script.{pattern-some, script-as-pattern}
-use Rattle.stepper.specs.Lines.{tickOf, taskOf, lengthOf, Next, InLine}
+use Rattle.stepper.specs.Lines.{tickOf, taskOf, lengthOf, InLine}
 
 -- what the pattern of a script gives at a tick
 pub released-none : (script : List Release) (tick task : ℕ) → ((i : ℕ) → i < length script → taskOf script i ≡ task → tickOf script i ≡ tick → ⊥) → patternOf script tick task ≡ 0

@@ -1,10 +1,8 @@
 -- The machine before tick 0, and over ticks in which nothing can happen.
-use Prim.Native.Nat.{ℕ, zero, suc, _+_, _-_, _≤_, _<_}
+use Prim.Native.Nat.{ℕ, _+_, _-_, _≤_, _<_}
 use mathlib.Core.Path.{_≡_, refl, sym, _∙_, ap, subst}
-use mathlib.Core.Bool.{true}
 use mathlib.Core.List.{List, []}
 use native.Mathlib.Omega.{arith}
-use lib.ListN.{length}
 use borrow.Author.Tests.{eqb-true}
 use Rattle.model.specs.declared.order.Task.{Task}
 use Rattle.model.specs.declared.build.Release.{Release}
@@ -16,8 +14,8 @@ use Rattle.machine.specs.Claims.{Lasts, lowered}
 use Rattle.machine.proofs.Box.{ranked, quiet-ticks}
 use Rattle.machine.proofs.Once.{runs-own}
 use Rattle.stepper.specs.declared.Machine.{Machine}
-use Rattle.stepper.specs.Arrays.{at, Sized}
-use Rattle.stepper.specs.Lines.{tickOf, taskOf, Next}
+use Rattle.stepper.specs.Arrays.{at}
+use Rattle.stepper.specs.Lines.{Next}
 use Rattle.stepper.specs.Follow.{ShowsTask, ShowsRunning, Follows, Given, Fresh, Skipped}
 use Rattle.stepper.proofs.Lines.{released-none, QuietTill, line-quiet}
 

@@ -1,27 +1,24 @@
 -- A tick of the code's machine is a step of the definition's box.
 use Prim.Native.Nat.{ℕ, zero, suc, _+_, _-_, _≤_, _<_}
 use mathlib.Core.Path.{_≡_, refl, sym, _∙_, ap, subst, subst₂}
-use mathlib.Core.Bool.{Bool, true, false}
+use mathlib.Core.Bool.{Bool}
 use mathlib.Core.List.{List, [], _∷_, _++_}
-use mathlib.Core.Option.{Option, none, some}
+use mathlib.Core.Option.{none, some}
 use native.Mathlib.Decide.{decLt, ℕ-discrete}
 use native.Mathlib.Omega.{arith}
-use lib.Dec.{eqb}
 use lib.ListN.{length, length-append}
 use borrow.Author.Tests.{eq-eqb, ne-eqb}
-use Rattle.laws.specs.Sums.{only}
-use Rattle.laws.proofs.Only.{only-true}
 use Rattle.model.specs.declared.order.Task.{Task}
 use Rattle.model.specs.declared.build.Release.{Release}
 use Rattle.model.specs.Limits.{mostTasks, mostPartitions}
 use Rattle.demand.specs.Priority.{deadlineOf, outranks}
 use Rattle.machine.specs.Step.{Pattern, Job, job, Running, free, runs, Scheduler, ended, released, ofMembers, joined, highest}
 use Rattle.machine.specs.Pattern.{patternOf}
-use Rattle.machine.specs.Box.{partitionOf, memberOf, schedulerOf, boxBefore}
+use Rattle.machine.specs.Box.{partitionOf, memberOf, schedulerOf}
 use Rattle.machine.proofs.View.{waitingBefore, runningBefore}
 use Rattle.machine.proofs.Box.{ranked}
 use Rattle.stepper.specs.declared.Machine.{Machine}
-use Rattle.stepper.specs.Arrays.{at, Sized, countOf, Joined, highestOf, Chosen, startsOf, Starts, taskThen, jobThen, leftThen, Served, waitingThen, oldestThen, Left}
+use Rattle.stepper.specs.Arrays.{at, Sized, countOf, Joined, Chosen, Starts, taskThen, jobThen, leftThen, Served, waitingThen, oldestThen, Left}
 use Rattle.stepper.specs.Lines.{tickOf, taskOf, lengthOf, Next, InLine, Laid}
 use Rattle.stepper.specs.Follow.{ShowsTask, ShowsRunning, Follows, Given, Releases, Deadlines, Ready}
 use Rattle.stepper.proofs.Leaves.{starts-free, starts-none, task-free, task-on, job-starts, job-on, left-starts, left-on, waiting-starts, waiting-on, oldest-starts, oldest-on}
@@ -238,3 +235,27 @@ module _ (table : List Task) (partitions : List ℕ) (n : ℕ) (script : List Re
             waits = λ k l. waiting-after (partitionOf partitions k) k l refl (given .homes k l) (turn-of (partitionOf partitions k));
             runs-so = λ p l. running-after p l (turn-of p);
           }
+
+-- the same, of arrays that stand for an order and a script
+module _ (partitions deadlines : List ℕ) (n : ℕ) (lengths next : List ℕ) (m : Machine) (releases : List ℕ) (so : Ready partitions deadlines n lengths next m releases) where
+  pub ready-waits : (k : ℕ) → k < n → at (m .waiting) k ≤ 1024
+  ready-waits = waits-few (so .table) partitions n (so .script) (so .given) (so .laid .few) (so .follows)
+
+  module _ (waiting chosen starts : List ℕ) (joins : Joined n (m .waiting) releases waiting) (chooses : Chosen partitions deadlines waiting n chosen) (begun : Starts (m .left) chosen starts) where
+    pub ready-starts : (p : ℕ) → p < mostPartitions → at starts p < mostTasks → at (m .oldest) (at starts p) < 1024
+    ready-starts p l small =
+        omega (arith, so .laid .few, starts-ready (so .table) partitions n (so .script) (so .given) m (so .tick) (so .follows) deadlines lengths next releases waiting chosen starts (so .ranks) (so .laid) (so .due) joins chooses begun p l small)
+
+    pub ready-leaves : (k : ℕ) → k < n → at starts (at partitions k) ≡ k → at (m .oldest) k < 1024
+    ready-leaves k l e =
+        omega (arith, so .laid .few, leaves-ready (so .table) partitions n (so .script) (so .given) m (so .tick) (so .follows) deadlines lengths next releases waiting chosen starts (so .ranks) (so .laid) (so .due) joins chooses begun k l e)
+
+    pub ready-sized : Sized (between (so .table) partitions n (so .script) (so .given) m (so .tick) (so .follows) deadlines lengths next releases waiting chosen starts (so .ranks) (so .laid) (so .due) joins chooses begun)
+    ready-sized =
+        let z = so .follows .sized in
+        record { waiting = joins .places; oldest = z .oldest; task = z .task; job = z .job; left = z .left }
+
+    pub ready-follows : (s r : Machine) → Served (record { waiting = waiting; oldest = m .oldest; task = m .task; job = m .job; left = m .left }) starts lengths 32 s
+        → Left s partitions starts next n r → Follows (so .table) partitions n (so .script) r (suc (so .tick))
+    ready-follows s r served left =
+        ticked (so .table) partitions n (so .script) (so .given) m (so .tick) (so .follows) deadlines lengths next releases waiting chosen starts (so .ranks) (so .laid) (so .due) joins chooses begun s r served left

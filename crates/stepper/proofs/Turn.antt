@@ -1,14 +1,13 @@
 -- What a step does, with the choice that it makes; and that a partition holds no jobs but its members'.
 use Prim.Native.Nat.{ℕ, zero, suc, _-_, _<_}
-use mathlib.Core.Path.{_≡_, refl, sym, _∙_, ap, subst}
-use mathlib.Core.Bool.{Bool, true, false}
-use mathlib.Core.List.{List, [], _∷_, _++_}
+use mathlib.Core.Path.{_≡_, refl, ap}
+use mathlib.Core.Bool.{false}
+use mathlib.Core.List.{List, [], _∷_}
 use mathlib.Core.Option.{Option, none, some}
 use mathlib.Core.Logic.{_≢_}
 use native.Mathlib.Omega.{arith}
-use Rattle.laws.specs.Sums.{only}
 use Rattle.laws.proofs.Only.{only-false}
-use Rattle.machine.specs.Step.{Pattern, Job, Running, free, runs, State, Scheduler, ended, released, ofMembers, joined, highest, occupies, replaced, oldestStarts, starts, startsIfFree, duringTick, passed, step, stateBefore}
+use Rattle.machine.specs.Step.{Pattern, Job, Running, free, runs, Scheduler, ended, released, ofMembers, joined, highest, occupies, oldestStarts, starts, startsIfFree, duringTick, passed, step, stateBefore}
 use Rattle.machine.proofs.Highest.{Ranked, Chosen, chosen}
 use Rattle.machine.proofs.View.{replaced-same, replaced-other, waitingBefore, runningBefore}
 use Rattle.machine.proofs.Line.{InLine}

@@ -1,5 +1,5 @@
 -- The machine's arrays are the box of crate machine before a tick.
-use Prim.Native.Nat.{ℕ, suc, _-_, _≤_, _<_}
+use Prim.Native.Nat.{ℕ, _-_, _≤_, _<_}
 use mathlib.Core.Path.{_≡_}
 use mathlib.Core.List.{List}
 use lib.ListN.{length}
@@ -12,7 +12,7 @@ use Rattle.machine.specs.Pattern.{patternOf, LegalScript}
 use Rattle.machine.specs.Box.{partitionOf, boxBefore}
 use Rattle.stepper.specs.declared.Machine.{Machine}
 use Rattle.stepper.specs.Arrays.{at, Sized}
-use Rattle.stepper.specs.Lines.{tickOf, taskOf, Next, InLine, Laid}
+use Rattle.stepper.specs.Lines.{tickOf, taskOf, InLine, Laid}
 
 -- a task's waiting jobs, before a tick
 pub record ShowsTask (script : List Release) (m : Machine) (tick task : ℕ) (waiting : List Job) : Type 0 where

@@ -136,6 +136,7 @@ fn oldest_then(oldest: usize, next: &[usize; Release::MOST], starts: usize, k: u
 impl Machine {
     // Before tick 0.
     pub fn new(first: [usize; Order::MOST_TASKS]) -> Machine
+        requires { ⌜ length first ≡ 32 ⌝ }
         ensures { λ r. ⌜ Fresh first r ⌝ }
     {
         Machine {
@@ -149,7 +150,7 @@ impl Machine {
 
     // What runs in each partition goes on, or the oldest job of the task that starts begins; and a tick passes.
     fn serve(self, starts: [usize; Build::MOST_PARTITIONS], lengths: &[u32; Release::MOST]) -> Machine
-        requires { ⌜ ((p : ℕ) → p < 32 → at starts p < 32 → at (self .oldest) (at starts p) < 1024) ⌝ }
+        requires { ⌜ Sized self × ((p : ℕ) → p < 32 → at starts p < 32 → at (self .oldest) (at starts p) < 1024) ⌝ }
         ensures { λ r. ⌜ Served self starts (now (lengths .entry)) 32 r ⌝ }
     {
         let oldest = self.oldest;
@@ -174,7 +175,7 @@ impl Machine {
         starts: [usize; Build::MOST_PARTITIONS],
         next: &[usize; Release::MOST],
     ) -> Machine
-        requires { ⌜ (tasks ≤ 32) × ((k : ℕ) → k < tasks → at partitions k < 32) × ((k : ℕ) → k < tasks → at starts (at partitions k) ≡ k → at (self .oldest) k < 1024) ⌝ }
+        requires { ⌜ Sized self × (tasks ≤ 32) × ((k : ℕ) → k < tasks → at partitions k < 32) × ((k : ℕ) → k < tasks → at starts (at partitions k) ≡ k → at (self .oldest) k < 1024) ⌝ }
         ensures { λ r. ⌜ Left self partitions starts (now (next .entry)) tasks r ⌝ }
     {
         let mut then = self;
