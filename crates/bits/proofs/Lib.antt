@@ -1,2 +1,3 @@
 pub mod Field
 pub mod Packed
+pub mod Record

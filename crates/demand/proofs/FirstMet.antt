@@ -1,13 +1,12 @@
 -- What `firstMet` answers, and what its answer says.
-use mathlib.Core.Path.{_≡_, refl, sym, ap, _∙_, subst}
-use mathlib.Core.Bool.{Bool, true, false}
-use Prim.Native.Nat.{ℕ, _≤_, _<_}
+use mathlib.Core.Path.{_≡_, ap, subst}
+use Prim.Native.Nat.{ℕ, _≤_}
 use native.Mathlib.Omega.{arith}
 use native.Mathlib.Decide.{decLt}
 use lib.Dec.{leb}
 use borrow.Author.Tests.{le-leb, lt-leb, leb-true, leb-false}
 use Rattle.model.specs.Limits.{horizon}
-use Rattle.search.specs.Smallest.{smallest, IsSmallest, Answers}
+use Rattle.search.specs.Smallest.{Answers}
 use Rattle.search.proofs.Smallest.{smallest-at, smallest-none, smallest-is, smallest-same}
 use Rattle.demand.specs.Kinds.{Found, At, Nothing}
 use Rattle.demand.specs.Test.{firstMet}

@@ -7,10 +7,9 @@ use native.Mathlib.Decide.{decLe}
 use native.Mathlib.Numerals.{add-one}
 use native.Mathlib.Omega.{arith}
 use mathlib.Core.Bool.{Bool}
-use lib.Dec.{leb}
 use borrow.Author.Tests.{le-leb, lt-leb}
 use Rattle.laws.specs.Choice.{pick}
-use Rattle.demand.specs.Kinds.{Found, At, Nothing, Verdict, Passes, Late}
+use Rattle.demand.specs.Kinds.{Found, At, Nothing, Passes, Late}
 use Rattle.demand.specs.Test.{largerFound, largestFound, judged}
 
 pub at-one : (x y : ℕ) → _≡_ {A = Found} (At x) (At y) → x ≡ y
@@ -43,7 +42,7 @@ module _ (f : ℕ → Found) where
             elim (decLe x m) [
               | yes le ↦ elim (decLe 1 k) [
                 | yes pos ↦ (let r = was .attained pos in
-                (r .0, omega (arith, r .1), r .2 ∙ ap At (omega arith)))
+                    (r .0, omega (arith, r .1), r .2 ∙ ap At (omega arith)))
                 | no gone ↦ (k, omega arith, here ∙ ap At (omega (arith, was .none (omega arith))))
               ]
               | no gt ↦ (k, omega arith, here ∙ ap At (omega arith))

@@ -3,21 +3,21 @@ use mathlib.Core.Path.{_≡_, refl, sym, ap, _∙_, subst}
 use mathlib.Core.Bool.{Bool, true, false}
 use mathlib.Core.List.{List}
 use mathlib.Core.Logic.{_↔_}
-use Prim.Native.Nat.{ℕ, zero, suc, _+_, _-_, _*_, _≤_, _<_, max}
+use Prim.Native.Nat.{ℕ, _+_, _-_, _*_, _≤_, _<_}
 use native.Mathlib.Nat.{zero-mul}
 use native.Mathlib.Omega.{arith}
 use lib.Dec.{leb}
-use borrow.Author.Tests.{le-leb, lt-leb, leb-true, leb-false}
+use borrow.Author.Tests.{leb-true, leb-false}
 use Rattle.laws.specs.Choice.{pick}
-use Rattle.demand.specs.Kinds.{Task, Found, At, Nothing, Verdict, Passes, NoWindow, NoStart, Late}
+use Rattle.demand.specs.Kinds.{Task, Found, At, Nothing, Passes, NoWindow, NoStart, Late}
 use Rattle.demand.specs.Priority.{deadlineOf}
 use Rattle.demand.specs.Releases.{periodOf, costOf, jobs}
-use Rattle.demand.specs.Test.{Sound, firstMet, windowDemand, window, startDemand, start, responseFrom, response, largestFound, judged, verdictIn, verdict}
-use Rattle.demand.specs.Meaning.{FirstMetAt, NeverMet, IsWindow, IsStart, IsResponse, IsPassing, IsWithoutStart, IsLate, VerdictMeans, EveryVerdictMeans, NoStartNever}
+use Rattle.demand.specs.Test.{Sound, windowDemand, window, startDemand, start, response, largestFound, judged, worst, verdict}
+use Rattle.demand.specs.Meaning.{NeverMet, IsWindow, IsStart, IsResponse, IsPassing, IsWithoutStart, IsLate, VerdictMeans, EveryVerdictMeans, NoStartNever}
 use Rattle.demand.proofs.Releases.{jobs-are}
-use Rattle.demand.proofs.FirstMet.{Says, met-at, met-never, met-says, met-one}
+use Rattle.demand.proofs.FirstMet.{Says, met-at, met-never, met-says}
 use Rattle.demand.proofs.Largest.{at-one, LargestIs, largest-says, largest-there, judged-late, judged-passes}
-use Rattle.demand.proofs.Table.{period-of, JobOf, job-of}
+use Rattle.demand.proofs.Table.{period-of, job-of}
 
 -- verdicts that differ
 clash : {A : Type 0} → _≡_ {A = ℕ} 0 1 → A
@@ -29,7 +29,7 @@ module _ (table : List Task) (partitions : List ℕ) (n i : ℕ) where
   verdict-none e = rw e
 
   pub verdict-in : (L : ℕ) → window table partitions n i ≡ At L → verdict table partitions n i ≡ judged (deadlineOf table i) (largestFound (response table partitions n i) (jobs L (periodOf table i)))
-  unfolding verdict
+  unfolding verdict worst
   verdict-in L e = rw e
 
   pub window-says : (f : Found) → window table partitions n i ≡ f → Says (windowDemand table partitions n i) 1 f

@@ -1,7 +1,7 @@
 -- Windows and starts over any work of higher members that grows with w: what a window gives its jobs, and where searches may begin.
-use mathlib.Core.Path.{_≡_, refl, sym, ap, _∙_, subst}
+use mathlib.Core.Path.{_≡_, refl, ap}
 use Prim.Native.Nat.{ℕ, zero, suc, _+_, _-_, _*_, _≤_, _<_}
-use native.Mathlib.Nat.{mul-le-mul-right, suc-mul, zero-mul, one-mul, add-mul}
+use native.Mathlib.Nat.{mul-le-mul-right, suc-mul, zero-mul}
 use native.Mathlib.Decide.{decLe}
 use native.Mathlib.Omega.{arith}
 use Rattle.model.specs.Limits.{horizon}
@@ -40,13 +40,13 @@ module _ (work : ℕ → ℕ) (grows : Grows work) where
         | no gt ↦ omega arith
       ]
 
-  module _ (B T C : ℕ) (period-least : 1 ≤ T) (cost-least : 1 ≤ C) where
-    pub window-grows : (a b : ℕ) → 1 ≤ a → a ≤ b → windowOver work B T C a ≤ windowOver work B T C b
-    unfolding windowOver
-    window-grows a b from h =
-        let le : a - 1 ≤ b - 1 = omega arith in
-        omega (arith, grows (a - 1) (b - 1) le, mul-le-mul-right C (by-mono T period-least le))
+  pub window-grows : (B T C : ℕ) → 1 ≤ T → (a b : ℕ) → 1 ≤ a → a ≤ b → windowOver work B T C a ≤ windowOver work B T C b
+  unfolding windowOver
+  window-grows B T C period-least a b from h =
+      let le : a - 1 ≤ b - 1 = omega arith in
+      omega (arith, grows (a - 1) (b - 1) le, mul-le-mul-right C (by-mono T period-least le))
 
+  module _ (B T C : ℕ) (period-least : 1 ≤ T) (cost-least : 1 ≤ C) where
     -- where t would close the window, each of its jobs could start at t - C
     pub room : (t q : ℕ) → 1 ≤ t → windowOver work B T C t ≤ t → q * T < t → startOver work (B + q * C) (t - C) + C ≤ t
     unfolding windowOver startOver

@@ -1,8 +1,8 @@
 -- The packed members: the work that they ask, packed one by one, and the test over them is the test over the table.
-use mathlib.Core.Path.{_≡_, refl, sym, ap, ap₂, _∙_, subst, subst⁻¹, fun-ext}
+use mathlib.Core.Path.{_≡_, sym, ap, ap₂, _∙_, subst⁻¹, fun-ext}
 use mathlib.Core.List.{List}
-use mathlib.Core.Bool.{Bool, true, false}
-use Prim.Native.Nat.{ℕ, _+_, _-_, _*_, _≤_, _<_}
+use mathlib.Core.Bool.{true, false}
+use Prim.Native.Nat.{ℕ, _+_, _*_, _≤_, _<_}
 use native.Mathlib.Nat.{mul-le-mul-right}
 use native.Mathlib.Omega.{arith}
 use borrow.Author.Count.{below-more}
@@ -13,7 +13,7 @@ use Rattle.laws.proofs.Picked.{sum-most}
 use Rattle.demand.specs.Kinds.{Task}
 use Rattle.demand.specs.Priority.{deadlineOf, higher}
 use Rattle.demand.specs.Releases.{periodOf, costOf, releasesBy}
-use Rattle.demand.specs.Test.{Sound, blocking, higherWork, verdictIn, verdict}
+use Rattle.demand.specs.Test.{Sound, blocking, higherWork, worstIn, verdictBy, worst, verdict}
 use Rattle.demand.specs.Packed.{verdictOver, Ranges, packedWork, Fits, Packs}
 use Rattle.demand.proofs.Releases.{by-mono, product-le}
 use Rattle.demand.proofs.Over.{Grows}
@@ -97,9 +97,9 @@ module _ (table : List Task) (partitions : List ℕ) (n i : ℕ) (sound : Sound 
 
   -- the verdict is that over the higher members' work
   pub verdict-over : verdict table partitions n i ≡ verdictOver (higherWork table partitions n i) (blocking table partitions n i) (periodOf table i) (costOf table i) (deadlineOf table i)
-  unfolding verdict verdictOver
+  unfolding verdict worst verdictOver
   verdict-over =
-      ap₂ (λ f g. verdictIn f g (periodOf table i) (deadlineOf table i)) (window-is-over table partitions n i sound mine) (fun-ext (response-over table partitions n i sound))
+      ap₂ (λ f g. verdictBy f (worstIn g (periodOf table i)) (deadlineOf table i)) (window-is-over table partitions n i sound mine) (fun-ext (response-over table partitions n i sound))
 
   module _ (periods costs : List ℕ) (count : ℕ) (is : Packs table partitions n i periods costs count) where
     pub packs-fit : Fits periods costs count
@@ -110,3 +110,9 @@ module _ (table : List Task) (partitions : List ℕ) (n i : ℕ) (sound : Sound 
     verdict-packed =
         verdict-over
         ∙ ap (λ f. verdictOver f (blocking table partitions n i) (periodOf table i) (costOf table i) (deadlineOf table i)) (sym (fun-ext (is .same)))
+
+    -- with the member's own numbers as they were read
+    pub packed-verdict :
+        (b T C D : ℕ) → b ≡ blocking table partitions n i → T ≡ periodOf table i → C ≡ costOf table i → D ≡ deadlineOf table i →
+        verdictOver (packedWork periods costs count) b T C D ≡ verdict table partitions n i
+    packed-verdict b T C D eb et ec ed = rw (eb, et, ec, ed) (sym verdict-packed)

@@ -1,18 +1,18 @@
 -- Priority is a strict order without ties; membership is shared; ranks count.
-use mathlib.Core.Path.{_≡_, refl, sym, ap, _∙_, subst}
+use mathlib.Core.Path.{_≡_, refl, sym}
 use mathlib.Core.Bool.{Bool, true, false, _&&_, _||_}
 use mathlib.Core.List.{List}
-use mathlib.Core.Logic.{_⊎_, inl, inr, ⊎-elim}
-use Prim.Native.Nat.{ℕ, zero, suc, _+_, _-_, _*_, _≤_, _<_}
-use native.Mathlib.Decide.{decLe, decLt}
+use mathlib.Core.Logic.{_⊎_, inl, inr}
+use Prim.Native.Nat.{ℕ, _+_, _≤_, _<_}
+use native.Mathlib.Decide.{decLt}
 use native.Mathlib.Nat.{mul-one}
 use native.Mathlib.Omega.{arith}
 use lib.Dec.{ltb, eqb}
 use lib.ListN.{getD}
-use borrow.Author.Tests.{lt-ltb, le-ltb, eq-eqb, ne-eqb, ltb-true, ltb-false, eqb-true, eqb-false}
-use Rattle.laws.specs.Sums.{only, sum}
+use borrow.Author.Tests.{lt-ltb, le-ltb, eq-eqb, ne-eqb, ltb-true, eqb-true, eqb-false}
+use Rattle.laws.specs.Sums.{only}
 use Rattle.laws.proofs.Sums.{sum-none, sum-more}
-use Rattle.laws.proofs.Picked.{only-le, sum-most}
+use Rattle.laws.proofs.Picked.{only-le, sum-most, sum-with}
 use Rattle.demand.specs.Kinds.{Task}
 use Rattle.demand.specs.Priority.{deadlineOf, outranks, inPartition, higher, lower, rank}
 
@@ -99,3 +99,11 @@ module _ (table : List Task) (partitions : List ℕ) where
   pub rank-le : (n i : ℕ) → rank table partitions n i ≤ n
   unfolding rank
   rank-le n i = omega (arith, sum-most (λ j. only (higher table partitions i j) 1) 1 n (λ j l. only-le (higher table partitions i j) 1), mul-one n)
+
+  -- a task is not among those above it
+  pub rank-less : (n i : ℕ) → i < n → rank table partitions n i < n
+  unfolding rank
+  rank-less n i below =
+      let split = sum-with (higher table partitions i) (λ j. 1) i (higher-self i) n below in
+      let all = sum-most (λ j. only (eqb j i || higher table partitions i j) 1) 1 n (λ j l. only-le (eqb j i || higher table partitions i j) 1) in
+      omega (arith, mul-one n)

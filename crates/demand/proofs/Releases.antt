@@ -1,7 +1,7 @@
 -- Laws of the counts of releases, of the jobs of a window, and of the cost.
-use mathlib.Core.Path.{_≡_, refl, sym, ap, _∙_}
+use mathlib.Core.Path.{_≡_, ap, _∙_}
 use mathlib.Core.Logic.{_↔_}
-use Prim.Native.Nat.{ℕ, zero, suc, _+_, _-_, _*_, _/_, _≤_, _<_}
+use Prim.Native.Nat.{ℕ, suc, _+_, _-_, _*_, _/_, _≤_, _<_}
 use native.Mathlib.Nat.{le-div-iff-mul-le, div-lt-iff-lt-mul, add-div-right, div-le-self, suc-mul, mul-le-mul}
 use native.Mathlib.Omega.{arith}
 use Rattle.laws.proofs.Division.{div-mono}

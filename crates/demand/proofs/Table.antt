@@ -1,17 +1,17 @@
 -- The test over a sound table: its demands grow, they are those over the higher members' work, and a window has room for all its jobs.
-use mathlib.Core.Path.{_≡_, refl, sym, ap, ap₂, _∙_, subst}
+use mathlib.Core.Path.{_≡_, refl, sym, ap, subst}
 use mathlib.Core.List.{List}
-use Prim.Native.Nat.{ℕ, zero, suc, _+_, _-_, _*_, _≤_, _<_, max}
+use Prim.Native.Nat.{ℕ, _+_, _-_, _*_, _≤_, _<_, max}
 use native.Mathlib.Nat.{mul-le-mul-right, le-trans}
 use native.Mathlib.Omega.{arith}
-use Rattle.laws.specs.Sums.{only, sum, largest}
+use Rattle.laws.specs.Sums.{only, largest}
 use Rattle.laws.proofs.Sums.{sum-le, sum-same, sum-none, sum-more, largest-le, largest-none, largest-more}
 use Rattle.laws.proofs.Picked.{only-mono, only-le, sum-with}
-use Rattle.demand.specs.Kinds.{Task, Found, At, Nothing}
+use Rattle.demand.specs.Kinds.{Task}
 use Rattle.demand.specs.Priority.{deadlineOf, higher, lower}
 use Rattle.demand.specs.Releases.{periodOf, costOf, releasesIn, releasesBy}
 use Rattle.demand.specs.Test.{Sound, firstMet, blocking, windowDemand, window, higherWork, startDemand, start, response}
-use Rattle.demand.specs.Meaning.{FirstMetAt, NeverMet, IsWindow, IsStart}
+use Rattle.demand.specs.Meaning.{FirstMetAt, IsWindow, IsStart}
 use Rattle.demand.specs.Packed.{startOver, windowOver, responseOver}
 use Rattle.demand.proofs.Releases.{by-mono, in-by, cost-least, cost-in-time, cost-most, period-least}
 use Rattle.demand.proofs.Priority.{higher-self}
@@ -83,7 +83,7 @@ module _ (table : List Task) (partitions : List ℕ) (n i : ℕ) (sound : Sound 
         let split = sum-with (higher table partitions i) (λ j. releasesIn t (periodOf table j) * costOf table j) i (higher-self table partitions i) n mine in
         let own = ap (λ (x : ℕ). x * costOf table i) (in-by t (periodOf table i) from (period-of table n sound i mine)) in
         let others = sum-same (λ j. only (higher table partitions i j) (releasesIn t (periodOf table j) * costOf table j)) (λ j. only (higher table partitions i j) (releasesBy (t - 1) (periodOf table j) * costOf table j)) n
-            (λ j l. ap (λ (x : ℕ). only (higher table partitions i j) (x * costOf table j)) (in-by t (periodOf table j) from (period-of table n sound j l))) in
+        (λ j l. ap (λ (x : ℕ). only (higher table partitions i j) (x * costOf table j)) (in-by t (periodOf table j) from (period-of table n sound j l))) in
         omega arith
 
     pub window-is-over : window table partitions n i ≡ firstMet (windowOver (higherWork table partitions n i) (blocking table partitions n i) (periodOf table i) (costOf table i)) 1

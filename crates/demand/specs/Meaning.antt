@@ -1,11 +1,12 @@
 -- What a verdict says, in the document's words: claims, proved in proofs/Meaning.antt.
 use mathlib.Core.Path.{_≡_}
+use mathlib.Core.Bool.{false}
 use mathlib.Core.List.{List}
 use mathlib.Core.Logic.{_↔_}
 use Prim.Native.Nat.{ℕ, _+_, _*_, _≤_, _<_}
 use Rattle.model.specs.Limits.{horizon}
 use Rattle.demand.specs.Kinds.{Task, Passes, NoWindow, NoStart, Late}
-use Rattle.demand.specs.Priority.{deadlineOf}
+use Rattle.demand.specs.Priority.{deadlineOf, inPartition, rank}
 use Rattle.demand.specs.Releases.{periodOf, costOf}
 use Rattle.demand.specs.Test.{Sound, windowDemand, startDemand, verdict}
 
@@ -70,3 +71,19 @@ EveryVerdictMeans = (table : List Task) (partitions : List ℕ) (n i : ℕ) → 
 -- a window that closes by H gives every needed start by H too
 abbrev pub NoStartNever : Type 0
 NoStartNever = (table : List Task) (partitions : List ℕ) (n i : ℕ) → Sound table n → i < n → verdict table partitions n i ≡ NoStart → ⊥
+
+-- "A task alone always passes.", with its cost for a response
+abbrev pub AlonePasses : Type 0
+AlonePasses =
+    (table : List Task) (partitions : List ℕ) (n i : ℕ) →
+    Sound table n →
+    i < n →
+    ((j : ℕ) → j < n → (j ≡ i → ⊥) → inPartition partitions i j ≡ false) →
+    verdict table partitions n i ≡ Passes (costOf table i)
+
+-- rank and verdict look at nothing but who is in the partition
+abbrev pub OnlyMembersCount : Type 0
+OnlyMembersCount =
+    (table : List Task) (partitions others : List ℕ) (n i : ℕ) →
+    ((j : ℕ) → j < n → inPartition partitions i j ≡ inPartition others i j) →
+    (rank table partitions n i ≡ rank table others n i) × (verdict table partitions n i ≡ verdict table others n i)

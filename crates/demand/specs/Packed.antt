@@ -9,7 +9,7 @@ use Rattle.model.specs.Limits.{mostTasks}
 use Rattle.search.specs.Smallest.{smallest}
 use Rattle.demand.specs.Kinds.{Task, Found, Verdict}
 use Rattle.demand.specs.Releases.{releasesBy}
-use Rattle.demand.specs.Test.{firstMet, higherWork, responseFrom, verdictIn}
+use Rattle.demand.specs.Test.{firstMet, higherWork, responseFrom, worstIn, verdictBy}
 
 -- what is asked of a start at w over a base of B + q·C
 unfoldable pub startOver : (ℕ → ℕ) → ℕ → ℕ → ℕ
@@ -24,7 +24,7 @@ responseOver work blocking period cost q = responseFrom (firstMet (startOver wor
 
 unfoldable pub verdictOver : (ℕ → ℕ) → ℕ → ℕ → ℕ → ℕ → Verdict
 verdictOver work blocking period cost deadline =
-    verdictIn (firstMet (windowOver work blocking period cost) 1) (responseOver work blocking period cost) period deadline
+    verdictBy (firstMet (windowOver work blocking period cost) 1) (worstIn (responseOver work blocking period cost) period) deadline
 
 -- a start looked for up to a limit
 unfoldable pub startWithin : (ℕ → ℕ) → ℕ → ℕ → Found

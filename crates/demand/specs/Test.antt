@@ -69,15 +69,19 @@ unfoldable pub largestFound : (ℕ → Found) → ℕ → Found
 largestFound f zero = At 0
 largestFound f (suc k) = largerFound (largestFound f k) (f k)
 
--- "Member i passes if it is at most D_i; without a window or one of its starts it does not pass."
+-- "For each q = 0, 1, .. with q·T_i < L": "The worst response is the largest of these."
+abbrev pub worstIn : (ℕ → Found) → ℕ → ℕ → Found
+worstIn response period L = largestFound response (jobs L period)
+
+-- "Member i passes if it is at most D_i"
 abbrev pub judged : ℕ → Found → Verdict
 judged deadline Nothing = NoStart
 judged deadline (At worst) = pick (leb worst deadline) (Passes worst) Late
 
--- by the window L: "For each q = 0, 1, .. with q·T_i < L", "The worst response is the largest of these."
-abbrev pub verdictIn : Found → (ℕ → Found) → ℕ → ℕ → Verdict
-verdictIn Nothing response period deadline = NoWindow
-verdictIn (At L) response period deadline = judged deadline (largestFound response (jobs L period))
+-- "without a window or one of its starts it does not pass"
+abbrev pub verdictBy : Found → (ℕ → Found) → ℕ → Verdict
+verdictBy Nothing worst deadline = NoWindow
+verdictBy (At L) worst deadline = judged deadline (worst L)
 
 module _ (table : List Task) (partitions : List ℕ) (n i : ℕ) where
   -- "Its response is w_q + C_i − q·T_i."
@@ -86,10 +90,10 @@ module _ (table : List Task) (partitions : List ℕ) (n i : ℕ) where
 
   -- "The worst response is the largest of these.", in a window of L
   unfoldable pub worst : ℕ → Found
-  worst L = largestFound response (jobs L (periodOf table i))
+  worst L = worstIn response (periodOf table i) L
 
   unfoldable pub verdict : Verdict
-  verdict = verdictIn (window table partitions n i) response (periodOf table i) (deadlineOf table i)
+  verdict = verdictBy (window table partitions n i) worst (deadlineOf table i)
 
 -- whether it passes
 abbrev pub doesPass : Verdict → Bool

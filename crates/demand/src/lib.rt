@@ -2,12 +2,12 @@
 mod members;
 mod ranks;
 
+pub use members::HigherMembers;
 pub use members::blocking;
 pub use members::cost_of;
 pub use members::larger;
 pub use members::pack_higher;
 pub use members::wide;
-pub use members::HigherMembers;
 pub use ranks::is_higher;
 pub use ranks::is_lower;
 pub use ranks::is_member;

@@ -45,7 +45,7 @@ pub fn is_higher(
     false
 }
 
-// Whether it is a lower-priority one.
+// Whether it is a lower-priority one: then the task outranks it.
 pub fn is_lower(
     table: [Task; Order::MOST_TASKS],
     partitions: [u32; Order::MOST_TASKS],
@@ -55,12 +55,7 @@ pub fn is_lower(
     requires { ⌜ (task < 32) × (other < 32) ⌝ }
     ensures { λ r. ⌜ r ≡ lower table partitions task other ⌝ }
 {
-    if is_member(partitions, task, other) {
-        let mine = table[task];
-        let its = table[other];
-        return outranks(mine.deadline, task, its.deadline, other);
-    }
-    false
+    is_higher(table, partitions, other, task)
 }
 
 fn count_of(counted: bool) -> u32

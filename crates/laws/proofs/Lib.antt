@@ -6,3 +6,5 @@ pub mod Joined
 pub mod Only
 pub mod Picked
 pub mod Sums
+pub mod Filled
+pub mod Every

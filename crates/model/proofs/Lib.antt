@@ -1,2 +1,4 @@
 pub mod Output
 pub mod Rules
+pub mod Stated
+pub mod Scan

@@ -2,32 +2,22 @@ use mathlib.Core.Path.{sym, _∙_}
 use borrow.Author.Needs.{needs}
 use Rattle.demand.proofs.members.lower_cost.Statement.{statement}
 use Rattle.demand.proofs.members.lower_cost.Tie as tie
-use Rattle.demand.proofs.members.lower_cost.Reads as reads
-use Rattle.demand.proofs.members.lower_cost.Lts as lts
-use Rattle.demand.proofs.members.cost_of.Reads as cost-of-reads
-use Rattle.demand.proofs.ranks.is_lower.Reads as is-lower-reads
 
--- src/members.rt:44:8
 is-lower-requires : tie.Need-is-lower-requires
 is-lower-requires c κs = search needs
 
--- src/members.rt:45:19
 mul-its : tie.Need-mul-its
 mul-its c = search needs
 
--- src/members.rt:45:19
 array-copy-out-its : tie.Need-array-copy-out-its
 array-copy-out-its c = search needs
 
--- src/members.rt:46:9
 cost-of-requires : tie.Need-cost-of-requires
 cost-of-requires c κs = let s = c .before .before .before in s .pre .0 .each _ (s .pre .2)
 
--- src/members.rt:46:9
 returns : tie.Need-returns
 returns c = simp (sym (c .before .before .before .is-lower .ensures) ∙ c .before .before .if1 .taken) (c .cost-of .ensures)
 
--- src/members.rt:34:1
 returns-2 : tie.Need-returns-2
 returns-2 c = simp (sym (c .before .is-lower .ensures) ∙ c .if1 .left)
 

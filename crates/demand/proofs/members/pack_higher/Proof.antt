@@ -1,7 +1,7 @@
 use native.Mathlib.Nat.{le-antisymm}
 use native.Mathlib.Omega.{arith}
 use mathlib.Core.Path.{_≡_, refl, sym, _∙_, subst}
-use Prim.Native.Nat.{ℕ, _≤_, _-_, _+_}
+use Prim.Native.Nat.{ℕ, _≤_, _-_}
 use lib.ListN.{length, length-set}
 use Rattle.demand.specs.Packed.{Packs}
 use Rattle.demand.proofs.Packed.{packs-none, packs-skip, packs-take}
@@ -9,11 +9,6 @@ use Rattle.demand.proofs.Table.{period-of, cost-of-most}
 use borrow.Author.Needs.{needs}
 use Rattle.demand.proofs.members.pack_higher.Statement.{statement}
 use Rattle.demand.proofs.members.pack_higher.Tie as tie
-use Rattle.demand.proofs.members.pack_higher.Reads as reads
-use Rattle.demand.proofs.members.pack_higher.Lts as lts
-use Rattle.demand.proofs.members.cost_of.Reads as cost-of-reads
-use Rattle.demand.proofs.members.wide.Reads as wide-reads
-use Rattle.demand.proofs.ranks.is_higher.Reads as is-higher-reads
 
 abbrev Inv-loop : tie.InvT-loop
 Inv-loop partitions tasks task table periods₀ costs₀ count₀ other₀ periods costs count other = (other ≤ tasks) × (count ≤ other) × (length periods ≡ 32) × (length costs ≡ 32) × Packs table partitions other task periods costs count
@@ -21,61 +16,47 @@ Inv-loop partitions tasks task table periods₀ costs₀ count₀ other₀ perio
 abbrev μ-loop : tie.MeasureT-loop
 μ-loop partitions tasks task table periods₀ costs₀ count₀ other₀ periods costs count other = tasks - other
 
--- src/members.rt:93:5
 loop-holds : tie.Need-loop-holds Inv-loop μ-loop
 loop-holds c = (omega arith, omega arith, refl, refl, packs-none _ _ _ _ _)
 
--- src/members.rt:94:12
 is-higher-requires : tie.Need-is-higher-requires Inv-loop μ-loop
 is-higher-requires c κs = search needs
 
--- src/members.rt:95:23
 mul-its : tie.Need-mul-its Inv-loop μ-loop
 mul-its c = search needs
 
--- src/members.rt:95:23
 array-copy-out-its : tie.Need-array-copy-out-its Inv-loop μ-loop
 array-copy-out-its c = search needs
 
--- src/members.rt:96:30
 wide-requires : tie.Need-wide-requires Inv-loop μ-loop
 wide-requires c κs = search needs
 
--- src/members.rt:96:13
 mul-periods : tie.Need-mul-periods Inv-loop μ-loop
 mul-periods c = search needs
 
--- src/members.rt:96:13
 array-write-periods : tie.Need-array-write-periods Inv-loop μ-loop
 array-write-periods c = search needs
 
--- src/members.rt:97:28
 cost-of-requires : tie.Need-cost-of-requires Inv-loop μ-loop
 cost-of-requires c κs = let s = c .before .before .before .before .before .before in s .pre .0 .each _ (c .before .before .before .before .loop-test .taken)
 
--- src/members.rt:97:13
 mul-costs : tie.Need-mul-costs Inv-loop μ-loop
 mul-costs c = search needs
 
--- src/members.rt:97:13
 array-write-costs : tie.Need-array-write-costs Inv-loop μ-loop
 array-write-costs c = search needs
 
--- src/members.rt:98:13
 add-count : tie.Need-add-count Inv-loop μ-loop
 add-count c = search needs
 
--- src/members.rt:99:13
 add-other : tie.Need-add-other Inv-loop μ-loop
 add-other c = search needs
 
--- src/members.rt:93:5
 loop-less : tie.Need-loop-less Inv-loop μ-loop
 loop-less c = search needs
 
--- src/members.rt:93:5
 loop-again : tie.Need-loop-again Inv-loop μ-loop
-loop-again c =     let s = c .before .before .before .before .before .before .before in
+loop-again c = let s = c .before .before .before .before .before .before .before in
     let a = s .args in
     let l = c .before .before .before .before .before .before .loop in (
       omega arith,
@@ -90,17 +71,14 @@ loop-again c =     let s = c .before .before .before .before .before .before .be
           (omega (arith, s .pre .0 .few)) (omega (arith, s .pre .0 .few)),
     )
 
--- src/members.rt:102:9
 add-other-2 : tie.Need-add-other-2 Inv-loop μ-loop
 add-other-2 c = search needs
 
--- src/members.rt:93:5
 loop-less-2 : tie.Need-loop-less-2 Inv-loop μ-loop
 loop-less-2 c = search needs
 
--- src/members.rt:93:5
 loop-again-2 : tie.Need-loop-again-2 Inv-loop μ-loop
-loop-again-2 c =     let a = c .before .before .before .before .args in
+loop-again-2 c = let a = c .before .before .before .before .args in
     let l = c .before .before .before .loop in (
       omega arith,
       omega arith,
@@ -109,9 +87,8 @@ loop-again-2 c =     let a = c .before .before .before .before .args in
       packs-skip (a .t1) (a .partitions) (a .task) (l .other) (l .count) (l .periods) (l .costs) (l .inv .4) (sym (c .before .is-higher .ensures) ∙ c .if1 .left),
     )
 
--- src/members.rt:80:1
 returns : tie.Need-returns Inv-loop μ-loop
-returns c =     let a = c .before .before .args in
+returns c = let a = c .before .before .args in
     let l = c .before .loop in
     subst (λ (k : ℕ). Packs (a .t1) (a .partitions) k (a .task) (l .periods) (l .costs) (l .count)) (le-antisymm (l .inv .0) (c .loop-test .left)) (l .inv .4)
 

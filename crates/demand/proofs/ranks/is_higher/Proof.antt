@@ -3,41 +3,29 @@ use Rattle.demand.specs.Priority.{higher}
 use borrow.Author.Needs.{needs}
 use Rattle.demand.proofs.ranks.is_higher.Statement.{statement}
 use Rattle.demand.proofs.ranks.is_higher.Tie as tie
-use Rattle.demand.proofs.ranks.is_higher.Reads as reads
-use Rattle.demand.proofs.ranks.is_higher.Lts as lts
-use Rattle.demand.proofs.ranks.is_member.Reads as is-member-reads
-use Rattle.demand.proofs.ranks.outranks.Reads as outranks-reads
 
--- src/ranks.rt:40:8
 is-member-requires : tie.Need-is-member-requires
 is-member-requires c κs = search needs
 
--- src/ranks.rt:41:20
 mul-mine : tie.Need-mul-mine
 mul-mine c = search needs
 
--- src/ranks.rt:41:20
 array-copy-out-mine : tie.Need-array-copy-out-mine
 array-copy-out-mine c = search needs
 
--- src/ranks.rt:42:19
 mul-its : tie.Need-mul-its
 mul-its c = search needs
 
--- src/ranks.rt:42:19
 array-copy-out-its : tie.Need-array-copy-out-its
 array-copy-out-its c = search needs
 
--- src/ranks.rt:43:9
 outranks-requires : tie.Need-outranks-requires
 outranks-requires c κs = search needs
 
--- src/ranks.rt:43:9
 returns : tie.Need-returns
 unfolding higher
 returns c = simp (sym (c .before .before .before .before .is-member .ensures) ∙ c .before .before .before .if1 .taken) (c .outranks .ensures)
 
--- src/ranks.rt:31:1
 returns-2 : tie.Need-returns-2
 unfolding higher
 returns-2 c = simp (sym (c .before .is-member .ensures) ∙ c .if1 .left)

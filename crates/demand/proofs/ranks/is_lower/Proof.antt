@@ -1,56 +1,14 @@
 use mathlib.Core.Path.{sym, _∙_}
-use Rattle.demand.specs.Priority.{lower}
+use Rattle.demand.proofs.Priority.{lower-higher}
 use borrow.Author.Needs.{needs}
 use Rattle.demand.proofs.ranks.is_lower.Statement.{statement}
 use Rattle.demand.proofs.ranks.is_lower.Tie as tie
-use Rattle.demand.proofs.ranks.is_lower.Reads as reads
-use Rattle.demand.proofs.ranks.is_lower.Lts as lts
-use Rattle.demand.proofs.ranks.is_member.Reads as is-member-reads
-use Rattle.demand.proofs.ranks.outranks.Reads as outranks-reads
 
--- src/ranks.rt:58:8
-is-member-requires : tie.Need-is-member-requires
-is-member-requires c κs = search needs
+is-higher-requires : tie.Need-is-higher-requires
+is-higher-requires c κs = search needs
 
--- src/ranks.rt:59:20
-mul-mine : tie.Need-mul-mine
-mul-mine c = search needs
-
--- src/ranks.rt:59:20
-array-copy-out-mine : tie.Need-array-copy-out-mine
-array-copy-out-mine c = search needs
-
--- src/ranks.rt:60:19
-mul-its : tie.Need-mul-its
-mul-its c = search needs
-
--- src/ranks.rt:60:19
-array-copy-out-its : tie.Need-array-copy-out-its
-array-copy-out-its c = search needs
-
--- src/ranks.rt:61:9
-outranks-requires : tie.Need-outranks-requires
-outranks-requires c κs = search needs
-
--- src/ranks.rt:61:9
 returns : tie.Need-returns
-unfolding lower
-returns c = simp (sym (c .before .before .before .before .is-member .ensures) ∙ c .before .before .before .if1 .taken) (c .outranks .ensures)
-
--- src/ranks.rt:49:1
-returns-2 : tie.Need-returns-2
-unfolding lower
-returns-2 c = simp (sym (c .before .is-member .ensures) ∙ c .if1 .left)
+returns c = let a = c .before .args in c .is-higher .ensures ∙ sym (lower-higher (a .table) (a .partitions) (a .task) (a .other))
 
 pub is-lower-spec : {M : Type 1} → statement M
-is-lower-spec =
-    tie.close
-    (tie.spec
-    is-member-requires
-    mul-mine
-    array-copy-out-mine
-    mul-its
-    array-copy-out-its
-    outranks-requires
-    returns
-    returns-2)
+is-lower-spec = tie.close (tie.spec is-higher-requires returns)

@@ -2,26 +2,19 @@ use Rattle.demand.specs.Priority.{inPartition}
 use borrow.Author.Needs.{needs}
 use Rattle.demand.proofs.ranks.is_member.Statement.{statement}
 use Rattle.demand.proofs.ranks.is_member.Tie as tie
-use Rattle.demand.proofs.ranks.is_member.Reads as reads
-use Rattle.demand.proofs.ranks.is_member.Lts as lts
 
--- src/ranks.rt:14:5
 mul-result : tie.Need-mul-result
 mul-result c = search needs
 
--- src/ranks.rt:14:5
 array-read-result : tie.Need-array-read-result
 array-read-result c = search needs
 
--- src/ranks.rt:14:26
 mul-result-2 : tie.Need-mul-result-2
 mul-result-2 c = search needs
 
--- src/ranks.rt:14:26
 array-read-result-2 : tie.Need-array-read-result-2
 array-read-result-2 c = search needs
 
--- src/ranks.rt:10:1
 returns : tie.Need-returns
 unfolding inPartition
 returns c = search needs

@@ -1,22 +1,16 @@
 use borrow.Author.Tests.{lt-ltb, le-ltb, eq-eqb, ne-eqb}
 use Rattle.demand.specs.Priority.{outranks}
-use borrow.Author.Needs.{needs}
 use Rattle.demand.proofs.ranks.outranks.Statement.{statement}
 use Rattle.demand.proofs.ranks.outranks.Tie as tie
-use Rattle.demand.proofs.ranks.outranks.Reads as reads
-use Rattle.demand.proofs.ranks.outranks.Lts as lts
 
--- src/ranks.rt:22:9
 returns : tie.Need-returns
 unfolding outranks
 returns c = simp (lt-ltb _ _ (c .if1 .taken))
 
--- src/ranks.rt:25:9
 returns-2 : tie.Need-returns-2
 unfolding outranks
 returns-2 c = simp (le-ltb _ _ (c .before .if1 .left), eq-eqb _ _ (c .if2 .taken))
 
--- src/ranks.rt:18:1
 returns-3 : tie.Need-returns-3
 unfolding outranks
 returns-3 c = simp (le-ltb _ _ (c .before .if1 .left), ne-eqb _ _ (c .if2 .left))

@@ -7,10 +7,6 @@ use Rattle.demand.proofs.Priority.{rank-none, rank-more, rank-le}
 use borrow.Author.Needs.{needs}
 use Rattle.demand.proofs.ranks.rank.Statement.{statement}
 use Rattle.demand.proofs.ranks.rank.Tie as tie
-use Rattle.demand.proofs.ranks.rank.Reads as reads
-use Rattle.demand.proofs.ranks.rank.Lts as lts
-use Rattle.demand.proofs.ranks.count_of.Reads as count-of-reads
-use Rattle.demand.proofs.ranks.is_higher.Reads as is-higher-reads
 
 abbrev Inv-loop : tie.InvT-loop
 Inv-loop table partitions tasks task count₀ other₀ count other = (other ≤ tasks) × (count ≡ rank table partitions other task)
@@ -18,15 +14,12 @@ Inv-loop table partitions tasks task count₀ other₀ count other = (other ≤ 
 abbrev μ-loop : tie.MeasureT-loop
 μ-loop table partitions tasks task count₀ other₀ count other = tasks - other
 
--- src/ranks.rt:84:5
 loop-holds : tie.Need-loop-holds Inv-loop μ-loop
 loop-holds c = (omega arith, sym (rank-none _ _ _))
 
--- src/ranks.rt:85:34
 is-higher-requires : tie.Need-is-higher-requires Inv-loop μ-loop
 is-higher-requires c κs = search needs
 
--- src/ranks.rt:85:25
 count-of-requires : tie.Need-count-of-requires Inv-loop μ-loop
 count-of-requires c κs = search needs
 
@@ -41,27 +34,22 @@ next c =
     let a = c .before .before .before .before .args in
     cc (rank-more (a .table) (a .partitions) (l .other) (a .task))
 
--- src/ranks.rt:85:17
 add-count : tie.Need-add-count Inv-loop μ-loop
-add-count c =     let l = c .before .before .before .loop in
+add-count c = let l = c .before .before .before .loop in
     let a = c .before .before .before .before .args in
     omega (arith, next c, rank-le (a .table) (a .partitions) (l .other + 1) (a .task))
 
--- src/ranks.rt:86:9
 add-other : tie.Need-add-other Inv-loop μ-loop
 add-other c = search needs
 
--- src/ranks.rt:84:5
 loop-less : tie.Need-loop-less Inv-loop μ-loop
 loop-less c = search needs
 
--- src/ranks.rt:84:5
 loop-again : tie.Need-loop-again Inv-loop μ-loop
 loop-again c = (omega arith, next c)
 
--- src/ranks.rt:73:1
 returns : tie.Need-returns Inv-loop μ-loop
-returns c =     let a = c .before .before .args in
+returns c = let a = c .before .before .args in
     c .before .loop .inv .1 ∙ ap (λ (k : ℕ). rank (a .table) (a .partitions) k (a .task)) (le-antisymm (c .before .loop .inv .0) (c .loop-test .left))
 
 pub rank-spec : {M : Type 1} → statement M

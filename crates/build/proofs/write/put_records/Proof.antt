@@ -1,0 +1,59 @@
+use Rattle.build.proofs.Records.{length-partitions}
+use Rattle.build.specs.Build.{partitionBytes, memberBytes, recordBytes}
+use Rattle.laws.proofs.Front.{front-step}
+use denote.Ref.{now}
+use Prim.Native.Nat.{_*_}
+use borrow.Author.Needs.{needs}
+use Rattle.build.proofs.write.put_records.Statement.{statement}
+use Rattle.build.proofs.write.put_records.Tie as tie
+
+cast-partitions : tie.Need-cast-partitions
+cast-partitions c = search needs
+
+put-partitions-requires : tie.Need-put-partitions-requires
+put-partitions-requires c κs = search needs
+
+mul-at : tie.Need-mul-at
+mul-at c = search needs
+
+sub-put-members : tie.Need-sub-put-members
+sub-put-members c = search needs
+
+part-put-members-start : tie.Need-part-put-members-start
+part-put-members-start c = search needs
+
+part-put-members-end : tie.Need-part-put-members-end
+part-put-members-end c = search needs
+
+cast-put-members : tie.Need-cast-put-members
+cast-put-members c = search needs
+
+put-members-requires : tie.Need-put-members-requires
+put-members-requires c κs = search needs
+
+same-length : tie.Need-same-length
+same-length c = search needs
+
+returns : tie.Need-returns
+unfolding recordBytes
+returns c =
+    let after = c .before .before in
+    let first = after .before .before .before .before .before in
+    let a = first .before .before .before .before .before .before .args in
+    let b = a .build in
+    front-step (partitionBytes (b .places) (b .partitions)) (memberBytes (b .members) (b .tasks)) (now (a .out)) (first .put-partitions .last .0) (after .put-members .last .0) (2 * b .partitions) (4 * b .tasks) (length-partitions (b .places) (b .partitions)) (first .put-partitions .ensures) (after .put-members .ensures)
+
+pub put-records-spec : {M : Type 1} → statement M
+put-records-spec =
+    tie.close
+    (tie.spec
+    cast-partitions
+    put-partitions-requires
+    mul-at
+    sub-put-members
+    part-put-members-start
+    part-put-members-end
+    cast-put-members
+    put-members-requires
+    same-length
+    returns)

@@ -1,0 +1,4 @@
+pub mod Kinds
+pub mod Rules
+pub mod Meaning
+pub mod Claims

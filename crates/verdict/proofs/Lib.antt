@@ -1,0 +1,2 @@
+pub mod Overfull
+pub mod Judged

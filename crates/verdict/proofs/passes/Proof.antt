@@ -1,0 +1,74 @@
+use Rattle.demand.specs.Test.{doesPass}
+use native.Mathlib.Omega.{arith}
+use mathlib.Core.Path.{_∙_, ap}
+use Rattle.demand.proofs.Packed.{ranges, packs-fit, packed-verdict}
+use borrow.Author.Needs.{needs}
+use Rattle.verdict.proofs.passes.Statement.{statement}
+use Rattle.verdict.proofs.passes.Tie as tie
+
+blocking-requires : tie.Need-blocking-requires
+blocking-requires c κs = search needs
+
+pack-higher-requires : tie.Need-pack-higher-requires
+pack-higher-requires c κs = search needs
+
+mul-mine : tie.Need-mul-mine
+mul-mine c = search needs
+
+array-copy-out-mine : tie.Need-array-copy-out-mine
+array-copy-out-mine c = search needs
+
+wide-requires : tie.Need-wide-requires
+wide-requires c κs = search needs
+
+cost-of-requires : tie.Need-cost-of-requires
+cost-of-requires c κs = let s = c .before .before .before .before .before .before in s .pre .0 .each _ (s .pre .1)
+
+wide-requires-2 : tie.Need-wide-requires-2
+wide-requires-2 c κs = search needs
+
+in-time-requires : tie.Need-in-time-requires
+in-time-requires c κs = let s = c .before .before .before .before .before .before .before .before .before .before in
+    let a = s .args in
+    let h = c .before .before .before .before .before .before .before .before .pack-higher in
+    let g = ranges (a .t1) (a .partitions) (a .tasks) (a .task) (s .pre .0) (s .pre .1) in
+    let b = c .before .before .before .before .before .before .before .before .before .blocking .ensures in
+    let t = c .before .before .before .before .wide .ensures in
+    let k = c .before .before .before .cost-of .ensures in
+    let d = c .before .before .wide2 .ensures in (
+      packs-fit (a .t1) (a .partitions) (a .tasks) (a .task) (s .pre .0) (s .pre .1) (h .result .periods) (h .result .costs) (h .result .count) (h .ensures),
+      record {
+        blocking-most = omega (arith, g .blocking-most);
+        cost-least = omega (arith, g .cost-least);
+        cost-most = omega (arith, g .cost-most);
+        deadline-most = omega (arith, g .deadline-most);
+        period-most = omega (arith, g .period-most);
+      },
+    )
+
+returns : tie.Need-returns
+returns c = let s = c .before .before .before .before .before .before .before .before .before .before .before in
+    let a = s .args in
+    let h = c .before .before .before .before .before .before .before .before .before .pack-higher in
+    let b = c .before .before .before .before .before .before .before .before .before .before .blocking in
+    let t = c .before .before .before .before .before .wide in
+    let k = c .before .before .before .before .cost-of in
+    let d = c .before .before .before .wide2 in
+    c .in-time .ensures
+    ∙ ap doesPass
+    (packed-verdict (a .t1) (a .partitions) (a .tasks) (a .task) (s .pre .0) (s .pre .1) (h .result .periods) (h .result .costs) (h .result .count) (h .ensures)
+    (b .result) (t .result) (k .result) (d .result) (b .ensures) (t .ensures) (k .ensures) (d .ensures))
+
+pub passes-spec : {M : Type 1} → statement M
+passes-spec =
+    tie.close
+    (tie.spec
+    blocking-requires
+    pack-higher-requires
+    mul-mine
+    array-copy-out-mine
+    wide-requires
+    cost-of-requires
+    wide-requires-2
+    in-time-requires
+    returns)
