@@ -21,7 +21,7 @@ pub fn records_in(script: &[u8]) -> usize
 }
 
 // A record, front to back.
-fn read_release(script: &[u8], i: usize) -> Release
+pub fn read_release(script: &[u8], i: usize) -> Release
     requires { ⌜ i ≤ 1024 ⌝ }
     ensures { λ r. ⌜ r ≡ releaseAt (now (script .entry)) i ⌝ }
 {

@@ -1,8 +1,19 @@
-// The run of a script through a build: the finish tick of each record.
+// The run of a legal script, from event to event: the finish tick of each record.
 use model::Build;
 use model::Order;
 use model::Release;
+use model::Task;
 use stepper::Machine;
+ghost use mathlib.Core.Path.{_≡_};
+ghost use mathlib.Core.Bool.{true};
+ghost use Prim.Native.Nat.{ℕ, _+_, _≤_, _<_};
+ghost use lib.ListN.{length};
+ghost use Rattle.demand.specs.Priority.{deadlineOf};
+ghost use Rattle.script.specs.Script.{releaseAt, recordsIn, scriptOf};
+ghost use Rattle.stepper.specs.Arrays.{at};
+ghost use Rattle.stepper.specs.Follow.{Deadlines};
+ghost use Rattle.events.specs.Parts.{never, Filled, Sooner, Soonest, tickOrNever, endOrNever, dueOf, Due, aheadThen, MovedOn, endsNow, noted};
+ghost use Rattle.events.specs.Prepared.{LinedUp, Prepared, Runs, ranOut};
 
 // Later than every event.
 const NEVER: u32 = 4_294_967_295;
@@ -14,6 +25,8 @@ pub struct Lines {
 }
 
 fn line_up(script: &[u8], records: usize) -> Lines
+    requires { ⌜ (records ≡ recordsIn (now script)) × (records ≤ 1024) ⌝ }
+    ensures { λ r. ⌜ LinedUp (scriptOf (now (script .entry))) (r .first) (r .next) ⌝ }
 {
     let mut first = [records; Order::MOST_TASKS];
     let mut next = [0usize; Release::MOST];
@@ -29,6 +42,8 @@ fn line_up(script: &[u8], records: usize) -> Lines
 }
 
 fn read_ticks(script: &[u8], records: usize) -> [u32; Release::MOST]
+    requires { ⌜ records ≤ 1024 ⌝ }
+    ensures { λ r. ⌜ Filled (λ i. releaseAt (now (script .entry)) i .tick) records r ⌝ }
 {
     let mut ticks = [0u32; Release::MOST];
     let mut i: usize = 0;
@@ -41,6 +56,8 @@ fn read_ticks(script: &[u8], records: usize) -> [u32; Release::MOST]
 }
 
 fn read_lengths(script: &[u8], records: usize) -> [u32; Release::MOST]
+    requires { ⌜ records ≤ 1024 ⌝ }
+    ensures { λ r. ⌜ Filled (λ i. releaseAt (now (script .entry)) i .length) records r ⌝ }
 {
     let mut lengths = [0u32; Release::MOST];
     let mut i: usize = 0;
@@ -53,6 +70,8 @@ fn read_lengths(script: &[u8], records: usize) -> [u32; Release::MOST]
 }
 
 fn deadlines_of(table: [Task; Order::MOST_TASKS], tasks: usize) -> [u32; Order::MOST_TASKS]
+    requires { ⌜ tasks ≤ 32 ⌝ }
+    ensures { λ r. ⌜ Deadlines table tasks r ⌝ }
 {
     let mut deadlines = [0u32; Order::MOST_TASKS];
     let mut k: usize = 0;
@@ -65,17 +84,22 @@ fn deadlines_of(table: [Task; Order::MOST_TASKS], tasks: usize) -> [u32; Order::
 }
 
 fn sooner(one: u32, other: u32) -> u32
+    ensures { λ r. ⌜ Sooner one other r ⌝ }
 {
     if one < other { one } else { other }
 }
 
 fn tick_or_never(ticks: &[u32; Release::MOST], records: usize, i: usize) -> u32
+    requires { ⌜ records ≤ 1024 ⌝ }
+    ensures { λ r. ⌜ r ≡ tickOrNever (now (ticks .entry)) records i ⌝ }
 {
     if i < records { ticks[i] } else { NEVER }
 }
 
 // The next release, or never; ahead is each task's first record that has not joined.
 fn next_release(ticks: &[u32; Release::MOST], records: usize, ahead: [usize; Order::MOST_TASKS], tasks: usize) -> u32
+    requires { ⌜ (records ≤ 1024) × (tasks ≤ 32) ⌝ }
+    ensures { λ r. ⌜ Soonest (λ k. tickOrNever (now (ticks .entry)) records (at ahead k)) tasks r ⌝ }
 {
     let mut soonest = NEVER;
     let mut k: usize = 0;
@@ -87,12 +111,16 @@ fn next_release(ticks: &[u32; Release::MOST], records: usize, ahead: [usize; Ord
 }
 
 fn end_or_never(task: usize, left: u32, tick: u32) -> u32
+    requires { ⌜ tick + left ≤ never ⌝ }
+    ensures { λ r. ⌜ r ≡ endOrNever task left tick ⌝ }
 {
     if task < Order::MOST_TASKS { tick + left } else { NEVER }
 }
 
 // The next end, seen from a tick, or never.
 fn next_end(machine: Machine, tick: u32) -> u32
+    requires { ⌜ ((p : ℕ) → p < 32 → tick + at (machine .left) p ≤ never) ⌝ }
+    ensures { λ r. ⌜ Soonest (λ p. endOrNever (at (machine .task) p) (at (machine .left) p) tick) 32 r ⌝ }
 {
     let mut soonest = NEVER;
     let mut p: usize = 0;
@@ -104,6 +132,8 @@ fn next_end(machine: Machine, tick: u32) -> u32
 }
 
 fn due_then(ticks: &[u32; Release::MOST], lengths: &[u32; Release::MOST], records: usize, i: usize, tick: u32) -> u32
+    requires { ⌜ records ≤ 1024 ⌝ }
+    ensures { λ r. ⌜ r ≡ dueOf (now (ticks .entry)) (now (lengths .entry)) records i tick ⌝ }
 {
     if i < records {
         if ticks[i] == tick {
@@ -123,6 +153,8 @@ fn due(
     tasks: usize,
     tick: u32,
 ) -> [u32; Order::MOST_TASKS]
+    requires { ⌜ (records ≤ 1024) × (tasks ≤ 32) ⌝ }
+    ensures { λ r. ⌜ Due (now (ticks .entry)) (now (lengths .entry)) records ahead tasks tick r ⌝ }
 {
     let mut releases = [0u32; Order::MOST_TASKS];
     let mut k: usize = 0;
@@ -134,12 +166,16 @@ fn due(
 }
 
 fn ahead_then(next: &[usize; Release::MOST], i: usize, release: u32) -> usize
+    requires { ⌜ ((release ≡ 0 → ⊥) → i < 1024) ⌝ }
+    ensures { λ r. ⌜ r ≡ aheadThen (now (next .entry)) i release ⌝ }
 {
     if release == 0 { i } else { next[i] }
 }
 
 // Each task's first record that has not joined, once the releases have.
 fn move_on(next: &[usize; Release::MOST], ahead: [usize; Order::MOST_TASKS], releases: [u32; Order::MOST_TASKS], tasks: usize) -> [usize; Order::MOST_TASKS]
+    requires { ⌜ (tasks ≤ 32) × ((k : ℕ) → k < tasks → (at releases k ≡ 0 → ⊥) → at ahead k < 1024) ⌝ }
+    ensures { λ r. ⌜ MovedOn (now (next .entry)) ahead releases tasks r ⌝ }
 {
     let mut then = [0usize; Order::MOST_TASKS];
     let mut k: usize = 0;
@@ -151,6 +187,7 @@ fn move_on(next: &[usize; Release::MOST], ahead: [usize; Order::MOST_TASKS], rel
 }
 
 fn ends_now(task: usize, left: u32) -> bool
+    ensures { λ r. ⌜ r ≡ endsNow task left ⌝ }
 {
     if task < Order::MOST_TASKS {
         return left == 0;
@@ -160,6 +197,8 @@ fn ends_now(task: usize, left: u32) -> bool
 
 // The jobs that end at a tick.
 fn note(machine: Machine, tick: u32, out: &mut [u32])
+    requires { ⌜ ((p : ℕ) → p < 32 → endsNow (at (machine .task) p) (at (machine .left) p) ≡ true → at (machine .job) p < length (now out)) ⌝ }
+    ensures { λ _. ⌜ now (out .exit) ≡ noted machine tick 32 (now (out .entry)) ⌝ }
 {
     let mut p: usize = 0;
     while p < Build::MOST_PARTITIONS {
@@ -173,6 +212,7 @@ fn note(machine: Machine, tick: u32, out: &mut [u32])
     }
 }
 
+// From event to event until nothing runs and nothing is to come.
 fn run_events(
     partitions: [u32; Order::MOST_TASKS],
     deadlines: [u32; Order::MOST_TASKS],
@@ -184,6 +224,8 @@ fn run_events(
     first: [usize; Order::MOST_TASKS],
     out: &mut [u32],
 )
+    requires { ⌜ Prepared partitions deadlines tasks records (now ticks) (now lengths) (now next) first (length (now out)) ⌝ }
+    ensures { λ _. ⌜ ((so : Prepared partitions deadlines tasks records (now (ticks .entry)) (now (lengths .entry)) (now (next .entry)) first (length (now (out .entry)))) → now (out .exit) ≡ ranOut (so .table) partitions tasks (so .script) (now (out .entry))) ⌝ }
 {
     let mut machine = Machine::new(first);
     let mut ahead = first;
@@ -208,10 +250,13 @@ fn run_events(
 
 // The finish tick of each record.
 pub fn run_script(order: Order, partitions: [u32; Order::MOST_TASKS], script: &[u8], out: &mut [u32])
+    requires { ⌜ Runs order partitions (now script) (length (now out)) ⌝ }
+    ensures { λ _. ⌜ now (out .exit) ≡ ranOut (order .table) partitions (order .tasks) (scriptOf (now (script .entry))) (now (out .entry)) ⌝ }
 {
     let records = script::records_in(script);
     let tasks = order.tasks as usize;
-    let deadlines = deadlines_of(order.table, tasks);
+    let table = order.table;
+    let deadlines = deadlines_of(table, tasks);
     let ticks = read_ticks(script, records);
     let lengths = read_lengths(script, records);
     let lines = line_up(script, records);
