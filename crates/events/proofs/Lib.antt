@@ -1,0 +1,5 @@
+pub mod Parts
+pub mod Noted
+pub mod Ahead
+pub mod Course
+pub mod Turn
