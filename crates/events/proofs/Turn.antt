@@ -94,7 +94,7 @@ module _ (partitions deadlines : List ℕ) (n records : ℕ) (ticks lengths next
         go (no d) = absurd (ne (omega (arith, E .left, A .most)))
 
     module _ (some : e ≡ never → ⊥) (m′ : Machine) (skipped : Skipped m (e - t) m′) where
-      before : t ≤ e
+      pub before : t ≤ e
       before = not-before partitions deadlines n records ticks lengths next first places so m ahead out₀ out t a b e C A B E (low some)
 
       quiet : QuietTill S t e
@@ -187,11 +187,13 @@ module _ (partitions deadlines : List ℕ) (n records : ℕ) (ticks lengths next
                   let y = ends-there i l (subst (FinishesAt (so .table) partitions n S i) s (job-finishes partitions deadlines n records ticks lengths next first places so i l .finishes)) in
                   absurd (x .1 (partitionOf partitions (taskOf S i)) (so .given .homes (taskOf S i) (so .given .legal .known i l)) (y .0) (y .1))
 
-      pub turn : length S ≤ length out₀ → (m″ : Machine) (ahead″ releases : List ℕ) → Due ticks lengths records ahead n e releases → MovedOn next ahead releases n ahead″ → Follows (so .table) partitions n S m″ (suc e)
+      pub turn : length S ≤ length out₀ → (m″ : Machine) (ahead″ releases : List ℕ) → Due ticks lengths records ahead n e releases → MovedOn next ahead releases n ahead″
+          → ((r : Ready partitions deadlines n lengths next m′ releases) → Follows (r .table) partitions n (r .script) m″ (suc (r .tick)))
           → K m″ ahead″ (e + 1) out₀ (noted m′ e 32 out)
-      turn room m″ ahead″ releases due moved follows =
+      unfolding ready
+      turn room m″ ahead″ releases due moved ticked =
           rw add-one (record {
-            follows = follows;
+            follows = ticked (ready releases due);
             ahead-of = λ k l. rw (moved .each k l) (ahead-moved partitions deadlines n records ticks lengths next first places so k (at ahead k) e (at releases k) (due .each k l) (ahead-quiet S k (at ahead k) t e before quiet (C .ahead-of k l)));
             written = written-e room;
             size = noted-length m′ e 32 out ∙ C .size;
