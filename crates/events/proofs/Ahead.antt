@@ -1,6 +1,6 @@
 -- Where each task stands in the script: its first record that has not joined.
-use Prim.Native.Nat.{ℕ, zero, suc, _≤_, _<_}
-use mathlib.Core.Path.{_≡_, refl, sym, _∙_, ap, subst}
+use Prim.Native.Nat.{ℕ, suc, _≤_, _<_}
+use mathlib.Core.Path.{_≡_, sym, _∙_, ap, subst}
 use mathlib.Core.List.{List}
 use native.Mathlib.Decide.{decLt, ℕ-discrete}
 use native.Mathlib.Omega.{arith}
@@ -8,7 +8,7 @@ use lib.ListN.{length}
 use Rattle.model.specs.declared.build.Release.{Release}
 use Rattle.machine.specs.Pattern.{patternOf}
 use Rattle.stepper.specs.Arrays.{at}
-use Rattle.stepper.specs.Lines.{tickOf, taskOf, lengthOf, Next}
+use Rattle.stepper.specs.Lines.{tickOf, taskOf, Next}
 use Rattle.stepper.proofs.Lines.{released-none, released-at, later, QuietTill}
 use Rattle.events.specs.Parts.{dueOf, aheadThen}
 use Rattle.events.specs.Prepared.{Prepared}

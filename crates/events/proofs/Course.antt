@@ -1,13 +1,11 @@
 -- What holds between events: the loop's invariant, its start, and where it ends.
-use Prim.Native.Nat.{ℕ, zero, suc, _+_, _-_, _≤_, _<_}
-use mathlib.Core.Path.{_≡_, refl, sym, _∙_, ap, subst, subst₂}
-use mathlib.Core.List.{List, _++_}
+use Prim.Native.Nat.{ℕ, suc, _+_, _-_, _≤_, _<_}
+use mathlib.Core.Path.{_≡_, refl, sym, _∙_, ap}
+use mathlib.Core.List.{List}
 use mathlib.Core.Logic.{_⊎_, inl, inr, ⊎-elim}
-use native.Mathlib.Decide.{decLt, ℕ-discrete}
+use native.Mathlib.Decide.{decLt}
 use native.Mathlib.Omega.{arith}
-use lib.ListN.{length, drop, getD, length-append, length-drop, List·getD-append}
-use lib.Seq.{ext-getD, getD-append-add, getD-drop}
-use Rattle.laws.proofs.Joined.{length-listed, getD-listed}
+use lib.ListN.{length}
 use Rattle.model.specs.declared.order.Task.{Task}
 use Rattle.model.specs.declared.build.Release.{Release}
 use Rattle.model.specs.Limits.{mostTasks, mostPartitions}
@@ -16,17 +14,17 @@ use Rattle.machine.specs.Pattern.{patternOf}
 use Rattle.machine.specs.Box.{partitionOf, boxBefore, Finishes}
 use Rattle.machine.specs.Claims.{lowered}
 use Rattle.machine.proofs.Box.{finishes-once}
-use Rattle.finish.specs.Finish.{finishOf, finishTicks}
+use Rattle.finish.specs.Finish.{finishOf}
 use Rattle.finish.specs.Claims.{FinishesAt, latest, JobFinishes}
 use Rattle.finish.proofs.Finish.{every-job-finishes}
 use Rattle.stepper.specs.declared.Machine.{Machine}
 use Rattle.stepper.specs.Arrays.{at}
-use Rattle.stepper.specs.Lines.{tickOf, taskOf, lengthOf}
+use Rattle.stepper.specs.Lines.{tickOf, taskOf}
 use Rattle.stepper.specs.Follow.{ShowsRunning, Follows, Fresh}
-use Rattle.stepper.proofs.Lines.{later, same-record, released-at, QuietTill}
+use Rattle.stepper.proofs.Lines.{later, released-at, QuietTill}
 use Rattle.stepper.proofs.Skip.{runs-member, runs-short, follows-first, box-skipped}
 use Rattle.events.specs.Parts.{never, Sooner, Soonest, tickOrNever, endOrNever}
-use Rattle.events.specs.Prepared.{Prepared, ranOut}
+use Rattle.events.specs.Prepared.{Prepared}
 use Rattle.events.proofs.Parts.{tick-there, tick-never, end-there, end-never}
 use Rattle.events.proofs.Ahead.{Ahead, ahead-first}
 

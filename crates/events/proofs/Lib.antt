@@ -3,3 +3,4 @@ pub mod Noted
 pub mod Ahead
 pub mod Course
 pub mod Turn
+pub mod Prepare

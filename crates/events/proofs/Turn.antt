@@ -1,21 +1,20 @@
 -- A turn of the run: from one event to the next, and the end.
-use Prim.Native.Nat.{ℕ, zero, suc, _+_, _-_, _≤_, _<_}
+use Prim.Native.Nat.{ℕ, suc, _+_, _-_, _≤_, _<_}
 use mathlib.Core.Path.{_≡_, refl, sym, _∙_, ap, subst}
 use mathlib.Core.Bool.{Bool, true, false, _&&_}
 use mathlib.Core.List.{List, _++_}
-use mathlib.Core.Logic.{_⊎_, inl, inr, ⊎-elim}
-use native.Mathlib.Decide.{decLt, ℕ-discrete}
+use mathlib.Core.Logic.{_⊎_, ⊎-elim}
+use native.Mathlib.Decide.{decLt}
 use native.Mathlib.Numerals.{add-one}
 use native.Mathlib.Omega.{arith}
 use lib.Dec.{eqb, ltb}
-use lib.ListN.{length, drop, getD, length-append, length-drop, List·getD-append}
+use lib.ListN.{length, drop, length-append, length-drop, List·getD-append}
 use lib.Seq.{ext-getD, getD-append-add, getD-drop}
 use borrow.Author.Tests.{lt-ltb, eq-eqb, ltb-true, eqb-true}
 use Rattle.laws.proofs.Joined.{length-listed, getD-listed}
-use Rattle.model.specs.declared.order.Task.{Task}
 use Rattle.model.specs.declared.build.Release.{Release}
 use Rattle.model.specs.Limits.{mostTasks, mostPartitions}
-use Rattle.machine.specs.Step.{Running, free, runs, State}
+use Rattle.machine.specs.Step.{Running, free, runs}
 use Rattle.machine.specs.Pattern.{patternOf}
 use Rattle.machine.specs.Box.{partitionOf, boxBefore, Finishes}
 use Rattle.finish.specs.Finish.{finishOf, finishTicks}
@@ -26,10 +25,10 @@ use Rattle.stepper.specs.Lines.{tickOf, taskOf}
 use Rattle.stepper.specs.Follow.{ShowsRunning, Follows, Releases, Ready, Skipped}
 use Rattle.stepper.proofs.Lines.{same-record, QuietTill}
 use Rattle.stepper.proofs.Skip.{runs-member, follows-skip}
-use Rattle.events.specs.Parts.{never, Sooner, Soonest, tickOrNever, endOrNever, dueOf, Due, MovedOn, aheadThen, endsNow, noted}
+use Rattle.events.specs.Parts.{never, Sooner, Soonest, tickOrNever, endOrNever, Due, MovedOn, endsNow, noted}
 use Rattle.events.specs.Prepared.{Prepared, ranOut}
 use Rattle.events.proofs.Noted.{Ends, noted-length, Hit, Missed, noted-at, noted-other}
-use Rattle.events.proofs.Ahead.{Ahead, ahead-quiet, due-so, due-some, ahead-moved}
+use Rattle.events.proofs.Ahead.{ahead-quiet, due-so, due-some, ahead-moved}
 use Rattle.events.proofs.Course.{Course, job-finishes, finish-is, finish-soon, quiet-till, lasts-till, IsEnd, event, not-before, none-between}
 
 -- both tests of an end

@@ -1,24 +1,18 @@
-use mathlib.Core.Path.{_≡_, refl, sym, ap, _∙_}
+use mathlib.Core.Path.{sym}
 use Rattle.events.proofs.Parts.{ahead-stays, ahead-goes}
 use borrow.Author.Needs.{needs}
 use Rattle.events.proofs.ahead_then.Statement.{statement}
 use Rattle.events.proofs.ahead_then.Tie as tie
-use Rattle.events.proofs.ahead_then.Reads as reads
-use Rattle.events.proofs.ahead_then.Lts as lts
 
--- src/lib.rt:172:34
 mul-result : tie.Need-mul-result
 mul-result c = let h = c .before .pre (c .if1 .left) in search needs
 
--- src/lib.rt:172:34
 element-copy-out-result : tie.Need-element-copy-out-result
 element-copy-out-result c = let h = c .before .pre (c .if1 .left) in search needs
 
--- src/lib.rt:168:1
 returns : tie.Need-returns
 returns c = sym (ahead-stays _ _ _ (c .if1 .taken))
 
--- src/lib.rt:168:1
 returns-2 : tie.Need-returns-2
 returns-2 c = sym (ahead-goes _ _ _ (c .before .if1 .left))
 

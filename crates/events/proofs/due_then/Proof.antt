@@ -1,36 +1,27 @@
-use mathlib.Core.Path.{_≡_, refl, sym, ap, _∙_}
+use mathlib.Core.Path.{sym}
 use Rattle.events.proofs.Parts.{due-now, due-later, due-never}
 use borrow.Author.Needs.{needs}
 use Rattle.events.proofs.due_then.Statement.{statement}
 use Rattle.events.proofs.due_then.Tie as tie
-use Rattle.events.proofs.due_then.Reads as reads
-use Rattle.events.proofs.due_then.Lts as lts
 
--- src/lib.rt:139:12
 mul-if2 : tie.Need-mul-if2
 mul-if2 c = search needs
 
--- src/lib.rt:139:12
 element-copy-out-if2 : tie.Need-element-copy-out-if2
 element-copy-out-if2 c = search needs
 
--- src/lib.rt:140:20
 mul-result : tie.Need-mul-result
 mul-result c = search needs
 
--- src/lib.rt:140:20
 element-copy-out-result : tie.Need-element-copy-out-result
 element-copy-out-result c = search needs
 
--- src/lib.rt:140:13
 returns : tie.Need-returns
 returns c = sym (due-now _ _ _ _ _ (c .before .before .before .if1 .taken) (c .before .if2 .taken))
 
--- src/lib.rt:142:9
 returns-2 : tie.Need-returns-2
 returns-2 c = sym (due-later _ _ _ _ _ (c .before .before .if1 .taken) (c .if2 .left))
 
--- src/lib.rt:134:1
 returns-3 : tie.Need-returns-3
 returns-3 c = sym (due-never _ _ _ _ _ (c .if1 .left))
 

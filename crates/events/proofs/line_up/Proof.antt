@@ -2,8 +2,8 @@ use lib.ListN.{length}
 use Rattle.model.specs.declared.build.Release.{Release}
 use Rattle.stepper.specs.Lines.{taskOf}
 use Rattle.script.proofs.Records.{script-length, script-record, task-small}
-use mathlib.Core.Path.{_≡_, refl, sym, ap, _∙_}
-use Prim.Native.Nat.{ℕ, _+_, _-_, _≤_, _<_}
+use mathlib.Core.Path.{_≡_, sym, ap, _∙_}
+use Prim.Native.Nat.{_-_, _≤_, _<_}
 use native.Mathlib.Omega.{arith}
 use denote.Ref.{now}
 use Rattle.script.specs.Script.{scriptOf}
@@ -11,9 +11,6 @@ use Rattle.events.proofs.Parts.{LinedFrom, lined-none, lined-more}
 use borrow.Author.Needs.{needs}
 use Rattle.events.proofs.line_up.Statement.{statement}
 use Rattle.events.proofs.line_up.Tie as tie
-use Rattle.events.proofs.line_up.Reads as reads
-use Rattle.events.proofs.line_up.Lts as lts
-use Rattle.script.proofs.read_release.Reads as read-release-reads
 
 abbrev Inv-loop : tie.InvT-loop
 Inv-loop script records first₀ next₀ i₀ first next i = (i ≤ records) × LinedFrom (scriptOf script) i first next
@@ -24,51 +21,39 @@ abbrev μ-loop : tie.MeasureT-loop
 task-few : (c : tie.After-read-release Inv-loop μ-loop) → c .read-release .result .task < 32
 task-few c = omega (arith, ap (λ (r : Release). r .task) (c .read-release .ensures), task-small (now (c .before .before .before .before .args .script)) (c .before .before .loop .i - 1))
 
--- src/lib.rt:34:5
 loop-holds : tie.Need-loop-holds Inv-loop μ-loop
 loop-holds c = (omega arith, lined-none (scriptOf (now (c .before .args .script))) (c .before .args .records) (c .before .pre .0 ∙ sym (script-length (now (c .before .args .script)))))
 
--- src/lib.rt:35:9
 sub-i : tie.Need-sub-i Inv-loop μ-loop
 sub-i c = search needs
 
--- src/lib.rt:36:13
 read-release-requires : tie.Need-read-release-requires Inv-loop μ-loop
 read-release-requires c κs = search needs
 
--- src/lib.rt:37:17
 cast-k : tie.Need-cast-k Inv-loop μ-loop
 cast-k c = search needs
 
--- src/lib.rt:38:19
 mul-next : tie.Need-mul-next Inv-loop μ-loop
 mul-next c = search needs
 
--- src/lib.rt:38:19
 array-read-next : tie.Need-array-read-next Inv-loop μ-loop
 array-read-next c = task-few (c .before)
 
--- src/lib.rt:38:9
 mul-next-2 : tie.Need-mul-next-2 Inv-loop μ-loop
 mul-next-2 c = search needs
 
--- src/lib.rt:38:9
 array-write-next : tie.Need-array-write-next Inv-loop μ-loop
 array-write-next c = search needs
 
--- src/lib.rt:39:9
 mul-first : tie.Need-mul-first Inv-loop μ-loop
 mul-first c = search needs
 
--- src/lib.rt:39:9
 array-write-first : tie.Need-array-write-first Inv-loop μ-loop
 array-write-first c = task-few (c .before)
 
--- src/lib.rt:34:5
 loop-less : tie.Need-loop-less Inv-loop μ-loop
 loop-less c = search needs
 
--- src/lib.rt:34:5
 loop-again : tie.Need-loop-again Inv-loop μ-loop
 loop-again c = 
     let l = c .before .before .before .loop in
@@ -79,7 +64,6 @@ loop-again c =
         ap (λ (r : Release). r .task) (c .before .read-release .ensures ∙ sym (script-record script (l .i - 1) (omega (arith, s .pre .0)))) in
     (omega arith, lined-more (scriptOf script) (l .i) (c .before .read-release .result .task) (l .first) (l .next) (c .before .before .loop-test .taken) (omega arith) (omega (arith, s .pre .1)) (task-few (c .before)) same (l .inv .1))
 
--- src/lib.rt:27:1
 returns : tie.Need-returns Inv-loop μ-loop
 returns c = 
     let l = c .before .loop in

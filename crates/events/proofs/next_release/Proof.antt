@@ -1,5 +1,4 @@
-use mathlib.Core.Path.{_≡_, refl, sym, ap, _∙_}
-use Prim.Native.Nat.{ℕ, _+_, _-_, _≤_, _<_}
+use Prim.Native.Nat.{ℕ, _-_, _≤_}
 use native.Mathlib.Omega.{arith}
 use native.Mathlib.Nat.{le-antisymm}
 use Rattle.stepper.specs.Arrays.{at}
@@ -9,10 +8,6 @@ use denote.Ref.{now}
 use borrow.Author.Needs.{needs}
 use Rattle.events.proofs.next_release.Statement.{statement}
 use Rattle.events.proofs.next_release.Tie as tie
-use Rattle.events.proofs.next_release.Reads as reads
-use Rattle.events.proofs.next_release.Lts as lts
-use Rattle.events.proofs.sooner.Reads as sooner-reads
-use Rattle.events.proofs.tick_or_never.Reads as tick-or-never-reads
 
 abbrev Inv-loop : tie.InvT-loop
 Inv-loop ticks records tasks ahead soonest₀ k₀ soonest k = (k ≤ tasks) × Soonest (λ i. tickOrNever ticks records (at ahead i)) k soonest
@@ -20,42 +15,33 @@ Inv-loop ticks records tasks ahead soonest₀ k₀ soonest k = (k ≤ tasks) × 
 abbrev μ-loop : tie.MeasureT-loop
 μ-loop ticks records tasks ahead soonest₀ k₀ soonest k = tasks - k
 
--- src/lib.rt:106:5
 loop-holds : tie.Need-loop-holds Inv-loop μ-loop
 loop-holds c = (omega arith, soonest-none _)
 
--- src/lib.rt:107:65
 mul-tick-or-never : tie.Need-mul-tick-or-never Inv-loop μ-loop
 mul-tick-or-never c = search needs
 
--- src/lib.rt:107:65
 array-read-tick-or-never : tie.Need-array-read-tick-or-never Inv-loop μ-loop
 array-read-tick-or-never c = search needs
 
--- src/lib.rt:107:35
 tick-or-never-requires : tie.Need-tick-or-never-requires Inv-loop μ-loop
 tick-or-never-requires c κs = search needs
 
--- src/lib.rt:107:9
 sooner-requires : tie.Need-sooner-requires Inv-loop μ-loop
 sooner-requires c κs = search needs
 
--- src/lib.rt:108:9
 add-k : tie.Need-add-k Inv-loop μ-loop
 add-k c = search needs
 
--- src/lib.rt:106:5
 loop-less : tie.Need-loop-less Inv-loop μ-loop
 loop-less c = search needs
 
--- src/lib.rt:106:5
 loop-again : tie.Need-loop-again Inv-loop μ-loop
 loop-again c = 
     let l = c .before .before .before .loop in
     let a = c .before .before .before .before .args in
     (omega arith, soonest-more (λ (i : ℕ). tickOrNever (now (a .ticks)) (a .records) (at (a .t3) i)) (l .k) (l .soonest) (c .before .tick-or-never .result) (c .sooner .result) (l .inv .1) (c .before .tick-or-never .ensures) (c .sooner .ensures))
 
--- src/lib.rt:100:1
 returns : tie.Need-returns Inv-loop μ-loop
 returns c = rw (le-antisymm (c .before .loop .inv .0) (c .loop-test .left)) at (c .before .loop .inv .1)
 

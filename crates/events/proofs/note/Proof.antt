@@ -1,5 +1,5 @@
-use mathlib.Core.Path.{_≡_, refl, sym, ap, _∙_}
-use Prim.Native.Nat.{ℕ, _+_, _-_, _≤_, _<_}
+use mathlib.Core.Path.{_≡_, sym, ap, _∙_}
+use Prim.Native.Nat.{ℕ, _-_, _≤_}
 use native.Mathlib.Omega.{arith}
 use native.Mathlib.Nat.{le-antisymm}
 use Rattle.stepper.specs.Arrays.{at}
@@ -10,9 +10,6 @@ use mathlib.Core.List.{List}
 use borrow.Author.Needs.{needs}
 use Rattle.events.proofs.note.Statement.{statement}
 use Rattle.events.proofs.note.Tie as tie
-use Rattle.events.proofs.note.Reads as reads
-use Rattle.events.proofs.note.Lts as lts
-use Rattle.events.proofs.ends_now.Reads as ends-now-reads
 
 abbrev Inv-loop : tie.InvT-loop
 Inv-loop tick out₀ machine p₀ out p = (p ≤ 32) × (out ≡ noted machine tick p out₀)
@@ -20,39 +17,30 @@ Inv-loop tick out₀ machine p₀ out p = (p ≤ 32) × (out ≡ noted machine t
 abbrev μ-loop : tie.MeasureT-loop
 μ-loop tick out₀ machine p₀ out p = 32 - p
 
--- src/lib.rt:204:5
 loop-holds : tie.Need-loop-holds Inv-loop μ-loop
 loop-holds c = (omega arith, sym (noted-none _ _ _))
 
--- src/lib.rt:205:21
 mul-ends-now : tie.Need-mul-ends-now Inv-loop μ-loop
 mul-ends-now c = search needs
 
--- src/lib.rt:205:21
 element-copy-out-ends-now : tie.Need-element-copy-out-ends-now Inv-loop μ-loop
 element-copy-out-ends-now c = search needs
 
--- src/lib.rt:205:38
 mul-ends-now-2 : tie.Need-mul-ends-now-2 Inv-loop μ-loop
 mul-ends-now-2 c = search needs
 
--- src/lib.rt:205:38
 element-copy-out-ends-now-2 : tie.Need-element-copy-out-ends-now-2 Inv-loop μ-loop
 element-copy-out-ends-now-2 c = search needs
 
--- src/lib.rt:205:12
 ends-now-requires : tie.Need-ends-now-requires Inv-loop μ-loop
 ends-now-requires c κs = search needs
 
--- src/lib.rt:206:21
 mul-i : tie.Need-mul-i Inv-loop μ-loop
 mul-i c = search needs
 
--- src/lib.rt:206:21
 element-copy-out-i : tie.Need-element-copy-out-i Inv-loop μ-loop
 element-copy-out-i c = search needs
 
--- src/lib.rt:207:13
 mul-out : tie.Need-mul-out Inv-loop μ-loop
 mul-out c = 
     let s = c .before .before .before .before .before .before .before .before in
@@ -62,7 +50,6 @@ mul-out c =
     let z = ap length (l .inv .1) ∙ noted-length (s .args .t1) (s .args .tick) (l .p) (s .args .out .now) in
     search needs
 
--- src/lib.rt:207:13
 slice-write-out : tie.Need-slice-write-out Inv-loop μ-loop
 slice-write-out c = 
     let s = c .before .before .before .before .before .before .before .before in
@@ -72,15 +59,12 @@ slice-write-out c =
     let z = ap length (l .inv .1) ∙ noted-length (s .args .t1) (s .args .tick) (l .p) (s .args .out .now) in
     omega arith
 
--- src/lib.rt:208:13
 add-p : tie.Need-add-p Inv-loop μ-loop
 add-p c = search needs
 
--- src/lib.rt:204:5
 loop-less : tie.Need-loop-less Inv-loop μ-loop
 loop-less c = search needs
 
--- src/lib.rt:204:5
 loop-again : tie.Need-loop-again Inv-loop μ-loop
 loop-again c = 
     let s = c .before .before .before .before .before .before .before .before in
@@ -88,29 +72,24 @@ loop-again c =
     let e = sym (c .before .before .ends-now .ensures) ∙ c .before .if1 .taken in
     (omega arith, ap (λ (x : List ℕ). set x (at (s .args .t1 .job) (l .p)) (s .args .tick)) (l .inv .1) ∙ sym (noted-end (s .args .t1) (s .args .tick) (l .p) (s .args .out .now) e))
 
--- src/lib.rt:211:9
 add-p-2 : tie.Need-add-p-2 Inv-loop μ-loop
 add-p-2 c = search needs
 
--- src/lib.rt:204:5
 loop-less-2 : tie.Need-loop-less-2 Inv-loop μ-loop
 loop-less-2 c = search needs
 
--- src/lib.rt:204:5
 loop-again-2 : tie.Need-loop-again-2 Inv-loop μ-loop
 loop-again-2 c = 
     let s = c .before .before .before .before .before .before .before in
     let l = c .before .before .before .before .before .loop in
     (omega arith, l .inv .1 ∙ sym (noted-on (s .args .t1) (s .args .tick) (l .p) (s .args .out .now) (sym (c .before .ends-now .ensures) ∙ c .if1 .left)))
 
--- src/lib.rt:199:1
 same-length : tie.Need-same-length Inv-loop μ-loop
 same-length c = 
     let s = c .before .before .before in
     let l = c .before .loop in
     ap length (l .inv .1) ∙ noted-length (s .args .t1) (s .args .tick) (l .p) (s .args .out .now)
 
--- src/lib.rt:199:1
 returns : tie.Need-returns Inv-loop μ-loop
 returns c = 
     let s = c .before .before .before in

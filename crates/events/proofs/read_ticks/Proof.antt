@@ -1,5 +1,5 @@
-use mathlib.Core.Path.{_≡_, refl, sym, ap, _∙_}
-use Prim.Native.Nat.{ℕ, _+_, _-_, _≤_, _<_}
+use mathlib.Core.Path.{_≡_, ap}
+use Prim.Native.Nat.{ℕ, _-_, _≤_, _<_}
 use native.Mathlib.Omega.{arith}
 use lib.ListN.{length, length-set, length-replicate}
 use Rattle.stepper.proofs.Fill.{fill-more}
@@ -10,9 +10,6 @@ use Rattle.script.specs.Script.{releaseAt}
 use borrow.Author.Needs.{needs}
 use Rattle.events.proofs.read_ticks.Statement.{statement}
 use Rattle.events.proofs.read_ticks.Tie as tie
-use Rattle.events.proofs.read_ticks.Reads as reads
-use Rattle.events.proofs.read_ticks.Lts as lts
-use Rattle.script.proofs.read_release.Reads as read-release-reads
 
 abbrev Inv-loop : tie.InvT-loop
 Inv-loop script records ticks₀ i₀ ticks i = (i ≤ records) × (length ticks ≡ 1024) × ((x : ℕ) → x < i → at ticks x ≡ releaseAt script x .tick)
@@ -20,38 +17,30 @@ Inv-loop script records ticks₀ i₀ ticks i = (i ≤ records) × (length ticks
 abbrev μ-loop : tie.MeasureT-loop
 μ-loop script records ticks₀ i₀ ticks i = records - i
 
--- src/lib.rt:50:5
 loop-holds : tie.Need-loop-holds Inv-loop μ-loop
 loop-holds c = (omega arith, length-replicate {A = ℕ} 1024 0, λ i h. absurd (omega arith))
 
--- src/lib.rt:51:13
 read-release-requires : tie.Need-read-release-requires Inv-loop μ-loop
 read-release-requires c κs = search needs
 
--- src/lib.rt:52:9
 mul-ticks : tie.Need-mul-ticks Inv-loop μ-loop
 mul-ticks c = search needs
 
--- src/lib.rt:52:9
 array-write-ticks : tie.Need-array-write-ticks Inv-loop μ-loop
 array-write-ticks c = search needs
 
--- src/lib.rt:53:9
 add-i : tie.Need-add-i Inv-loop μ-loop
 add-i c = search needs
 
--- src/lib.rt:50:5
 loop-less : tie.Need-loop-less Inv-loop μ-loop
 loop-less c = search needs
 
--- src/lib.rt:50:5
 loop-again : tie.Need-loop-again Inv-loop μ-loop
 loop-again c = 
     let l = c .before .before .loop in
     let s = now (c .before .before .before .before .args .script) in
     (omega arith, simp length-set (l .inv .1), fill-more (l .ticks) (λ (x : ℕ). releaseAt s x .tick) (l .i) (c .read-release .result .tick) (omega arith) (l .inv .2) (ap (λ (r : Release). r .tick) (c .read-release .ensures)))
 
--- src/lib.rt:44:1
 returns : tie.Need-returns Inv-loop μ-loop
 returns c = record { places = c .before .loop .inv .1; each = λ i h. c .before .loop .inv .2 i (omega arith) }
 

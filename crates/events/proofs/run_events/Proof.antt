@@ -5,7 +5,7 @@ use Rattle.stepper.specs.declared.Machine.{Machine}
 use Rattle.stepper.specs.Arrays.{at}
 use Rattle.stepper.specs.Follow.{Follows, Ready, Skipped}
 use Prim.Native.Nat.{ℕ, suc, _+_, _-_, _≤_, _<_}
-use mathlib.Core.Path.{_≡_, refl, sym, ap, _∙_, subst}
+use mathlib.Core.Path.{_≡_, sym, subst}
 use mathlib.Core.List.{List}
 use native.Mathlib.Omega.{arith}
 use lib.ListN.{length}
@@ -14,21 +14,10 @@ use Rattle.finish.specs.Claims.{latest}
 use Rattle.events.specs.Parts.{never, noted}
 use Rattle.events.specs.Prepared.{Prepared, ranOut}
 use Rattle.events.proofs.Course.{Course, course-first, ends-fit}
-use Rattle.events.proofs.Turn.{all-done, low, before, follows-e, note-fits, ready, move-fits, sooner-end, turn}
+use Rattle.events.proofs.Turn.{all-done, low, before, note-fits, ready, move-fits, sooner-end, turn}
 use borrow.Author.Needs.{needs}
 use Rattle.events.proofs.run_events.Statement.{statement}
 use Rattle.events.proofs.run_events.Tie as tie
-use Rattle.events.proofs.run_events.Reads as reads
-use Rattle.events.proofs.run_events.Lts as lts
-use Rattle.events.proofs.due.Reads as due-reads
-use Rattle.events.proofs.move_on.Reads as move-on-reads
-use Rattle.events.proofs.next_end.Reads as next-end-reads
-use Rattle.events.proofs.next_release.Reads as next-release-reads
-use Rattle.events.proofs.note.Reads as note-reads
-use Rattle.events.proofs.sooner.Reads as sooner-reads
-use Rattle.stepper.proofs.Machine.new.Reads as new-reads
-use Rattle.stepper.proofs.Machine.skip.Reads as skip-reads
-use Rattle.stepper.proofs.Machine.tick.Reads as tick-reads
 
 abbrev Inv-loop : tie.InvT-loop
 Inv-loop partitions deadlines tasks records ticks lengths next out₀ machine₀ ahead₀ tick₀ out machine ahead tick =
@@ -96,23 +85,19 @@ module _ (c : tie.After-sooner Inv-loop μ-loop) (so : So c) (some : Some c) (qu
         let l = c .before .before .before .loop in
         turn (a .partitions) (a .deadlines) (a .tasks) (a .records) (now (a .ticks)) (now (a .lengths)) (now (a .next)) (a .first) (length (now (a .out))) so (l .machine) (l .ahead) (now (a .out)) (l .out) (l .tick) (c .before .before .next-release .result) (c .before .next-end .result) (c .sooner .result) (l .inv so) (c .before .before .next-release .ensures) (c .before .next-end .ensures) (c .sooner .ensures) some quiet skipped (so .room) machine ahead releases due moved ticked
 
--- src/lib.rt:230:9
 new-requires : tie.Need-new-requires Inv-loop μ-loop
 new-requires c κs = c .before .pre .lined-up .places
 
--- src/lib.rt:233:5
 loop-holds : tie.Need-loop-holds Inv-loop μ-loop
 loop-holds c = λ so.
     let a = c .before .before .args in
     course-first (a .partitions) (a .deadlines) (a .tasks) (a .records) (now (a .ticks)) (now (a .lengths)) (now (a .next)) (a .first) (length (now (a .out))) so (c .new .result) (now (a .out)) (c .new .ensures)
 
--- src/lib.rt:234:13
 next-release-requires : tie.Need-next-release-requires Inv-loop μ-loop
 next-release-requires c κs = 
     let so = c .before .before .before .pre in
     (omega (arith, so .count, so .laid .few), so .given .few)
 
--- src/lib.rt:235:13
 next-end-requires : tie.Need-next-end-requires Inv-loop μ-loop
 next-end-requires c κs = 
     let s = c .before .before .before .before in
@@ -120,64 +105,52 @@ next-end-requires c κs =
     let so = s .pre in
     ends-fit (a .partitions) (a .deadlines) (a .tasks) (a .records) (now (a .ticks)) (now (a .lengths)) (now (a .next)) (a .first) (length (now (a .out))) so (c .before .loop .inv so)
 
--- src/lib.rt:236:13
 sooner-requires : tie.Need-sooner-requires Inv-loop μ-loop
 sooner-requires c κs = search needs
 
--- src/lib.rt:238:13
 same-length : tie.Need-same-length Inv-loop μ-loop
 same-length c = c .before .before .before .before .loop .inv (c .before .before .before .before .before .before .before .pre) .size
 
--- src/lib.rt:238:13
 returns : tie.Need-returns Inv-loop μ-loop
 returns c = λ so. done-here (c .before) so (c .if1 .taken)
 
--- src/lib.rt:240:34
 sub-skip : tie.Need-sub-skip Inv-loop μ-loop
 sub-skip c = after-tick (c .before) (Start (c .before) .pre) (c .if1 .left)
 
--- src/lib.rt:240:13
 skip-requires : tie.Need-skip-requires Inv-loop μ-loop
 skip-requires c κs = search needs
 
--- src/lib.rt:241:9
 note-requires : tie.Need-note-requires Inv-loop μ-loop
 note-requires c κs = 
     let s = c .before .before .before in
     fits-here s (Start s .pre) (c .before .before .if1 .left) (c .before .skip .result) (c .before .skip .ensures)
 
--- src/lib.rt:242:13
 due-requires : tie.Need-due-requires Inv-loop μ-loop
 due-requires c κs = 
     let so = c .before .before .before .before .before .before .before .before .before .before .before .before .pre in
     (omega (arith, so .count, so .laid .few), so .given .few)
 
--- src/lib.rt:243:13
 tick-requires : tie.Need-tick-requires Inv-loop μ-loop
 tick-requires c κs = 
     let s = c .before .before .before .before .before .before .before in
     ready-here s (Start s .pre) (c .before .before .before .before .before .before .if1 .left) (c .before .before .before .before .before .skip .result) (c .before .before .before .before .before .skip .ensures) (c .due .result) (c .due .ensures)
 
--- src/lib.rt:244:13
 move-on-requires : tie.Need-move-on-requires Inv-loop μ-loop
 move-on-requires c κs = 
     let s = c .before .before .before .before .before .before .before .before in
     (Start s .pre .given .few, moves-here s (Start s .pre) (c .before .before .before .before .before .before .before .if1 .left) (c .before .before .before .before .before .before .skip .result) (c .before .before .before .before .before .before .skip .ensures) (c .before .due .result) (c .before .due .ensures))
 
--- src/lib.rt:247:16
 add-tick : tie.Need-add-tick Inv-loop μ-loop
 add-tick c = 
     let s = c .before .before .before .before .before .before .before .before .before in
     let some = c .before .before .before .before .before .before .before .before .if1 .left in
     search needs
 
--- src/lib.rt:233:5
 loop-less : tie.Need-loop-less Inv-loop μ-loop
 loop-less c = 
     let s = c .before .before .before .before .before .before .before .before .before in
     sooner-here s (Start s .pre) (c .before .before .before .before .before .before .before .before .if1 .left) (c .before .before .before .before .before .before .before .skip .result) (c .before .before .before .before .before .before .before .skip .ensures)
 
--- src/lib.rt:233:5
 loop-again : tie.Need-loop-again Inv-loop μ-loop
 loop-again c = λ so.
     let s = c .before .before .before .before .before .before .before .before .before in

@@ -1,50 +1,46 @@
+use lib.ListN.{length}
+use denote.Ref.{now}
+use Rattle.events.specs.Prepared.{Prepared}
+use Rattle.events.proofs.Prepare.{prepared}
 use borrow.Author.Needs.{needs}
 use Rattle.events.proofs.run_script.Statement.{statement}
 use Rattle.events.proofs.run_script.Tie as tie
-use Rattle.events.proofs.run_script.Reads as reads
-use Rattle.events.proofs.run_script.Lts as lts
-use Rattle.events.proofs.deadlines_of.Reads as deadlines-of-reads
-use Rattle.events.proofs.line_up.Reads as line-up-reads
-use Rattle.events.proofs.read_lengths.Reads as read-lengths-reads
-use Rattle.events.proofs.read_ticks.Reads as read-ticks-reads
-use Rattle.events.proofs.run_events.Reads as run-events-reads
-use Rattle.script.proofs.records_in.Reads as records-in-reads
 
--- src/lib.rt:256:9
+-- what the run is given
+so-here : (r : tie.After-line-up) → let a = r .before .before .before .before .before .before .before .before .before .args in
+    Prepared (a .partitions) (r .before .before .before .deadlines-of .result) (a .order .tasks) (r .before .before .before .before .before .before .records-in .result) (r .before .before .read-ticks .result) (r .before .read-lengths .result) (r .line-up .result .next) (r .line-up .result .first) (length (now (a .out)))
+so-here r =
+    let s = r .before .before .before .before .before .before .before .before .before in
+    let a = s .args in
+    prepared (a .order) (a .partitions) (now (a .script)) (length (now (a .out))) (s .pre) _ _ _ _ _ _ (r .before .before .before .before .before .before .records-in .ensures) (r .before .before .before .deadlines-of .ensures) (r .before .before .read-ticks .ensures) (r .before .read-lengths .ensures) (r .line-up .ensures)
+
 records-in-requires : tie.Need-records-in-requires
 records-in-requires c κs = search needs
 
--- src/lib.rt:257:17
 cast-tasks : tie.Need-cast-tasks
 cast-tasks c = search needs
 
--- src/lib.rt:259:9
 deadlines-of-requires : tie.Need-deadlines-of-requires
 deadlines-of-requires c κs = search needs
 
--- src/lib.rt:260:17
 read-ticks-requires : tie.Need-read-ticks-requires
 read-ticks-requires c κs = search needs
 
--- src/lib.rt:261:19
 read-lengths-requires : tie.Need-read-lengths-requires
 read-lengths-requires c κs = search needs
 
--- src/lib.rt:262:9
 line-up-requires : tie.Need-line-up-requires
 line-up-requires c κs = search needs
 
--- src/lib.rt:265:5
 run-events-requires : tie.Need-run-events-requires
-run-events-requires c κs = search needs
+run-events-requires c κs = so-here (c .before .before .before .before .before .before)
 
--- src/lib.rt:252:1
 same-length : tie.Need-same-length
 same-length c = search needs
 
--- src/lib.rt:252:1
 returns : tie.Need-returns
-returns c = search needs
+unfolding so-here prepared
+returns c = c .before .before .run-events .ensures (so-here (c .before .before .before .before .before .before .before .before .before))
 
 pub run-script-spec : {M : Type 1} → statement M
 run-script-spec =
