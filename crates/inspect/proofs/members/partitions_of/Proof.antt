@@ -44,7 +44,7 @@ loop-again : tie.Need-loop-again Inv-loop μ-loop
 loop-again c =
     let w = c .before .before in
     let members = w .before .before .before .args .build .members in
-    (search needs, cc (filled-more (λ k. memberOf members k .partition) 0 32 (w .loop .i) (omega arith)))
+    (search needs, rw (w .loop .inv .1) (filled-more (λ k. memberOf members k .partition) 0 32 (w .loop .i) (omega arith)))
 
 returns : tie.Need-returns Inv-loop μ-loop
 unfolding partitionsOf
