@@ -1,0 +1,47 @@
+-- "The run continues until every job has finished and writes one 32-bit finish tick per record."
+use Prim.Native.Nat.{ℕ, _<_, _≤_}
+use mathlib.Core.Bool.{Bool, false, _&&_}
+use mathlib.Core.List.{List, [], _∷_}
+use lib.Dec.{eqb}
+use lib.ListN.{length}
+use Rattle.laws.specs.Joined.{listed}
+use Rattle.laws.specs.Choice.{pick}
+use Rattle.search.specs.Smallest.{smallest}
+use Rattle.search.specs.declared.Found.{Found}
+use Rattle.search.specs.declared.Found.the-variants.{At, Nothing}
+use Rattle.model.specs.declared.order.Task.{Task}
+use Rattle.model.specs.declared.build.Release.{Release}
+use Rattle.machine.specs.Step.{Pattern, Running, free, runs}
+use Rattle.machine.specs.Pattern.{recordOf, patternOf}
+use Rattle.machine.specs.Box.{partitionOf, boxBefore, memberOf}
+
+-- what runs is the job that a task released at a tick, and its time is used up
+unfoldable pub usedUp : (task release : ℕ) → Running → Bool
+usedUp task release free = false
+usedUp task release (runs k a left) = eqb k task && (eqb a release && eqb left 0)
+
+-- the largest 32-bit number
+abbrev pub mostTick : ℕ
+mostTick = 4_294_967_295
+
+-- "a job whose time is used up ends, with finish tick t": the 32-bit tick at which the job that a task released at a tick ends
+unfoldable pub finishFound : List Task → List ℕ → (n : ℕ) → Pattern → (task release : ℕ) → Found
+finishFound table partitions n releases task release =
+    smallest (λ tick. usedUp task release (boxBefore table partitions n releases tick (partitionOf partitions task) .running)) 0 mostTick
+
+abbrev pub foundTick : Found → ℕ
+foundTick (At tick) = tick
+foundTick Nothing = 0
+
+-- the finish tick of record i; Claims.antt says that a legal script's job always has one
+unfoldable pub finishOf : List Task → List ℕ → (n : ℕ) → List Release → (i : ℕ) → ℕ
+finishOf table partitions n script i = foundTick (finishFound table partitions n (patternOf script) (recordOf script i .task) (recordOf script i .tick))
+
+-- "one 32-bit finish tick per record"
+unfoldable pub finishTicks : List Task → List ℕ → (n : ℕ) → List Release → List ℕ
+finishTicks table partitions n script = listed (finishOf table partitions n script) (length script)
+
+-- the records of partition p's tasks
+unfoldable pub recordsOf : List ℕ → (p : ℕ) → List Release → List Release
+recordsOf partitions p [] = []
+recordsOf partitions p (r ∷ script) = pick (memberOf partitions p (r .task)) (r ∷ recordsOf partitions p script) (recordsOf partitions p script)

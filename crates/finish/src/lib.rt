@@ -1,0 +1,1 @@
+// Finish ticks: what a run writes, as a definition; no code.
