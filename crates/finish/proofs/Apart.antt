@@ -6,16 +6,14 @@ use mathlib.Core.List.{List, [], _∷_}
 use lib.Dec.{eqb}
 use borrow.Author.Tests.{eqb-true, eqb-false}
 use Rattle.laws.specs.Choice.{pick}
-use Rattle.model.specs.declared.order.Task.{Task}
 use Rattle.model.specs.declared.build.Release.{Release}
 use Rattle.machine.specs.Step.{State}
 use Rattle.machine.specs.Pattern.{recordOf, patternOf}
-use Rattle.machine.specs.Box.{partitionOf, memberOf, schedulerOf, boxBefore}
+use Rattle.machine.specs.Box.{partitionOf, recordsOf, memberOf, schedulerOf, boxBefore}
 use Rattle.machine.specs.Claims.{AgreeOn}
 use Rattle.machine.proofs.Isolation.{state-same, members-agree}
 use Rattle.search.proofs.Smallest.{smallest-same}
-use Rattle.search.specs.declared.Found.{Found}
-use Rattle.finish.specs.Finish.{usedUp, mostTick, finishFound, foundTick, finishOf, recordsOf}
+use Rattle.finish.specs.Finish.{usedUp, mostTick, finishFound, foundTick, finishOf}
 use Rattle.finish.specs.Claims.{RunsApart}
 
 -- a task's releases stand among its partition's records
@@ -48,5 +46,5 @@ runs-apart table partitions n p one other same i j equal home =
     ap foundTick
     (smallest-same (λ tick. usedUp (r .task) (r .tick) (boxBefore table partitions n (patternOf one) tick (partitionOf partitions (r .task)) .running))
     (λ tick. usedUp (r .task) (r .tick) (boxBefore table partitions n (patternOf other) tick (partitionOf partitions (r .task)) .running)) 0 mostTick
-    (λ tick from. ap (λ (s : State). usedUp (r .task) (r .tick) (s .running)) (state-same S (patternOf one) (patternOf other) (members-agree table partitions n (partitionOf partitions (r .task)) (patternOf one) (patternOf other) agree) tick)))
+    (λ tick from. ap (λ (s : State). usedUp (r .task) (r .tick) (s .running)) (state-same S (patternOf one) (patternOf other) (λ t k. members-agree table partitions n (partitionOf partitions (r .task)) (patternOf one) (patternOf other) t k (agree t k)) tick)))
     ∙ ap (λ (x : Release). foundTick (finishFound table partitions n (patternOf other) (x .task) (x .tick))) equal

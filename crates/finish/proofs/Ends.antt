@@ -1,20 +1,17 @@
 -- A job that was released before a tick at which its partition is free has ended by then.
-use Prim.Native.Nat.{ℕ, zero, suc, _+_, _-_, _≤_, _<_}
-use mathlib.Core.Path.{_≡_, refl, sym, _∙_, ap, subst}
-use mathlib.Core.Bool.{Bool, true, false}
-use mathlib.Core.List.{List, []}
+use Prim.Native.Nat.{ℕ, suc, _+_, _-_, _≤_, _<_}
+use mathlib.Core.Path.{_≡_, sym, _∙_, ap}
 use native.Mathlib.Decide.{decLt}
 use native.Mathlib.Omega.{arith}
 use lib.Dec.{eqb}
 use borrow.Author.Tests.{eqb-true}
-use Rattle.laws.specs.Sums.{only, sum}
 use Rattle.laws.proofs.Sums.{sum-suc}
 use Rattle.laws.proofs.Growth.{sum-grows, sum-crosses}
 use Rattle.laws.proofs.Only.{only-some}
 use Rattle.laws.proofs.Picked.{only-le}
 use Rattle.machine.specs.Step.{Pattern, Running, free, runs, Scheduler, Ends}
 use Rattle.machine.proofs.Highest.{Ranked}
-use Rattle.machine.proofs.View.{runningBefore, waitingBefore}
+use Rattle.machine.proofs.View.{runningBefore}
 use Rattle.machine.proofs.Line.{releasedBefore, lengths, lengths-none}
 use Rattle.machine.proofs.Work.{servesTask, leftOf, theirs, serves, servedBefore, RunsInLine}
 use Rattle.machine.proofs.Once.{runs-in-line, conserved}

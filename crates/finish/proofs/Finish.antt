@@ -1,6 +1,6 @@
 -- Every job of a legal script has one finish tick, and `finishOf` is it.
-use Prim.Native.Nat.{ℕ, _+_, _*_, _≤_, _<_}
-use mathlib.Core.Path.{_≡_, refl, sym, _∙_, ap, subst}
+use Prim.Native.Nat.{ℕ, _+_, _≤_, _<_}
+use mathlib.Core.Path.{_≡_, refl, sym, ap, subst}
 use mathlib.Core.Bool.{Bool, true, false, _&&_}
 use mathlib.Core.List.{List}
 use native.Mathlib.Nat.{mul-le-mul-right}
@@ -8,19 +8,19 @@ use native.Mathlib.Omega.{arith}
 use lib.Dec.{eqb, T}
 use lib.ListN.{length}
 use borrow.Author.Tests.{eq-eqb, eqb-true}
-use Rattle.laws.specs.Sums.{only, sum}
+use Rattle.laws.specs.Sums.{only}
 use Rattle.laws.proofs.Only.{only-true}
 use Rattle.search.specs.declared.Found.the-variants.{At}
 use Rattle.search.proofs.Smallest.{smallest-at}
 use Rattle.model.specs.declared.order.Task.{Task}
 use Rattle.model.specs.declared.build.Release.{Release}
-use Rattle.machine.specs.Step.{Pattern, Running, free, runs, Scheduler, ofMembers}
+use Rattle.machine.specs.Step.{Pattern, Running, free, runs, ofMembers}
 use Rattle.machine.specs.Pattern.{recordOf, patternOf, LegalScript}
 use Rattle.machine.specs.Box.{partitionOf, memberOf, schedulerOf, boxBefore, Finishes}
 use Rattle.machine.proofs.Script.{script-as-pattern}
 use Rattle.machine.proofs.Box.{ranked, finishes-once}
 use Rattle.finish.specs.Finish.{usedUp, mostTick, finishFound, foundTick, finishOf}
-use Rattle.finish.specs.Claims.{Short, FinishesAt, latest, JobFinishes, EveryJobFinishes, FinishTickIsOne}
+use Rattle.finish.specs.Claims.{Short, FinishesAt, latest, EveryJobFinishes, FinishTickIsOne}
 use Rattle.finish.proofs.Grid.{total, total-most, released-most}
 use Rattle.finish.proofs.Rest.{rests}
 use Rattle.finish.proofs.Ends.{ended-by}

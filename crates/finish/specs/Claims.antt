@@ -8,8 +8,8 @@ use Rattle.model.specs.declared.build.Release.{Release}
 use Rattle.model.specs.Limits.{mostRecords}
 use Rattle.machine.specs.Step.{Pattern}
 use Rattle.machine.specs.Pattern.{recordOf, patternOf, LegalScript}
-use Rattle.machine.specs.Box.{partitionOf, Finishes}
-use Rattle.finish.specs.Finish.{finishOf, recordsOf, mostTick}
+use Rattle.machine.specs.Box.{partitionOf, recordsOf, Finishes}
+use Rattle.finish.specs.Finish.{finishOf, mostTick}
 
 -- a script as its bytes can hold it: "tick 20, .. length 20", "script records .. 1,024"
 pub record Short (script : List Release) : Type 0 where

@@ -1,11 +1,10 @@
 -- "The run continues until every job has finished and writes one 32-bit finish tick per record."
-use Prim.Native.Nat.{ℕ, _<_, _≤_}
+use Prim.Native.Nat.{ℕ}
 use mathlib.Core.Bool.{Bool, false, _&&_}
-use mathlib.Core.List.{List, [], _∷_}
+use mathlib.Core.List.{List}
 use lib.Dec.{eqb}
 use lib.ListN.{length}
 use Rattle.laws.specs.Joined.{listed}
-use Rattle.laws.specs.Choice.{pick}
 use Rattle.search.specs.Smallest.{smallest}
 use Rattle.search.specs.declared.Found.{Found}
 use Rattle.search.specs.declared.Found.the-variants.{At, Nothing}
@@ -13,7 +12,7 @@ use Rattle.model.specs.declared.order.Task.{Task}
 use Rattle.model.specs.declared.build.Release.{Release}
 use Rattle.machine.specs.Step.{Pattern, Running, free, runs}
 use Rattle.machine.specs.Pattern.{recordOf, patternOf}
-use Rattle.machine.specs.Box.{partitionOf, boxBefore, memberOf}
+use Rattle.machine.specs.Box.{partitionOf, boxBefore}
 
 -- what runs is the job that a task released at a tick, and its time is used up
 unfoldable pub usedUp : (task release : ℕ) → Running → Bool
@@ -40,8 +39,3 @@ finishOf table partitions n script i = foundTick (finishFound table partitions n
 -- "one 32-bit finish tick per record"
 unfoldable pub finishTicks : List Task → List ℕ → (n : ℕ) → List Release → List ℕ
 finishTicks table partitions n script = listed (finishOf table partitions n script) (length script)
-
--- the records of partition p's tasks
-unfoldable pub recordsOf : List ℕ → (p : ℕ) → List Release → List Release
-recordsOf partitions p [] = []
-recordsOf partitions p (r ∷ script) = pick (memberOf partitions p (r .task)) (r ∷ recordsOf partitions p script) (recordsOf partitions p script)

@@ -34,13 +34,13 @@ module _ (scheduler : Scheduler) (one other : Pattern) where
           join-same : (task : ℕ) → joined (ofMembers scheduler one) tick (before .waiting) task ≡ joined (ofMembers scheduler other) tick (before .waiting) task
           join-same task = joined-same (ofMembers scheduler one) (ofMembers scheduler other) tick (before .waiting) task (same task)
 
-  state-same : ((tick task : ℕ) → ofMembers scheduler one tick task ≡ ofMembers scheduler other tick task) → (tick : ℕ)
+  pub state-same : ((tick task : ℕ) → ofMembers scheduler one tick task ≡ ofMembers scheduler other tick task) → (tick : ℕ)
       → stateBefore scheduler one tick ≡ stateBefore scheduler other tick
   unfolding stateBefore
   state-same same zero = refl
   state-same same (suc tick) = rw (state-same same tick) (step-same tick (same tick) (stateBefore scheduler other tick))
 
-members-agree : (table : List Task) (partitions : List ℕ) (n p : ℕ) (one other : Pattern) (tick task : ℕ)
+pub members-agree : (table : List Task) (partitions : List ℕ) (n p : ℕ) (one other : Pattern) (tick task : ℕ)
     → (partitionOf partitions task ≡ p → one tick task ≡ other tick task)
     → ofMembers (schedulerOf table partitions n p) one tick task ≡ ofMembers (schedulerOf table partitions n p) other tick task
 unfolding ofMembers memberOf
