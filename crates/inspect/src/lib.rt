@@ -3,6 +3,8 @@ mod layout;
 mod members;
 mod places;
 
+pub use members::partitions_of;
+
 use model::Answer;
 use model::Build;
 use model::Order;
