@@ -4,7 +4,7 @@ use mathlib.Core.Path.{_≡_, sym, ap, _∙_}
 use mathlib.Core.List.{List, _++_}
 use native.Mathlib.Omega.{arith}
 use lib.ListN.{length, drop}
-use Rattle.laws.proofs.Filled.{getD-filled}
+use Rattle.laws.proofs.Filled.{filled-in}
 use Rattle.model.specs.declared.order.Order.{Order}
 use Rattle.model.specs.declared.answer.Answer.{Answer}
 use Rattle.model.specs.declared.answer.Answer.the-variants.{Done, Refused}
@@ -56,7 +56,7 @@ module _ (order build : List ℕ) where
   homes e k l =
       let a = check-accepts e in
       let b = buildAt build in
-      let same = getD-filled (λ i. memberOf (b .members) i .partition) 0 0 mostTasks (b .tasks) k (omega (arith, a .tasks)) in
+      let same = filled-in (λ i. memberOf (b .members) i .partition) 0 mostTasks (b .tasks) k (omega (arith, a .tasks)) in
       omega (arith, same, a .widths k l .there, a .partitions .1)
 
   module _ (script : List ℕ) (places : ℕ) where
