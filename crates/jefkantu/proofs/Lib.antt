@@ -3,3 +3,4 @@ pub mod Word
 pub mod Places
 pub mod Surface
 pub mod Builds
+pub mod Runs

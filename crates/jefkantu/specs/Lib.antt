@@ -1,3 +1,4 @@
 pub mod Word
 pub mod Surface
 pub mod Builds
+pub mod Runs

@@ -8,6 +8,7 @@ ghost use Rattle.model.specs.Answer.{causeNumber, causePlace};
 ghost use Rattle.jefkantu.specs.Word.{answerWord};
 ghost use Rattle.jefkantu.specs.Surface.{orderNumbers, ReadsOrder, WritesOrder};
 ghost use Rattle.jefkantu.specs.Builds.{PlansBuild, ChecksBuild};
+ghost use Rattle.jefkantu.specs.Runs.{RunsScript};
 
 // "65,535 where none applies"
 const NO_PLACE: u64 = 65_535;
@@ -169,5 +170,14 @@ pub extern "C" fn jefkantu_check(order: &[u8], build: &[u8]) -> u64
     ensures { λ r. ⌜ ChecksBuild (now (order .entry)) (now (build .entry)) r ⌝ }
 {
     let answer = inspect::check(order, build);
+    answer_word(answer)
+}
+
+// Runs a release script through a build: a finish tick for each record, into the front of the output.
+#[no_mangle]
+pub extern "C" fn jefkantu_run(order: &[u8], build: &[u8], script: &[u8], out: &mut [u32]) -> u64
+    ensures { λ r. ⌜ RunsScript (now (order .entry)) (now (build .entry)) (now (script .entry)) (now (out .entry)) r (now (out .exit)) ⌝ }
+{
+    let answer = run::run(order, build, script, out);
     answer_word(answer)
 }
