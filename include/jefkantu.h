@@ -18,6 +18,9 @@ extern "C" {
 // The length of the longest build, in bytes: 32 partitions and 32 tasks.
 #define JEFKANTU_MOST_BUILD_BYTES 195
 
+// The most records of a script, and so the most finish ticks of a run.
+#define JEFKANTU_MOST_RECORDS 1024
+
 // An order read, as numbers: M, n, then m, T, D and C of 32 tasks, zero past the n tasks.
 #define JEFKANTU_ORDER_NUMBERS 130
 
@@ -52,6 +55,12 @@ uint64_t jefkantu_plan(const uint8_t *order, size_t order_len, uint8_t *out, siz
 // Checks a build against an order: the order's 1 to 10, then 20 to 30; 0 says that every rule holds.
 uint64_t jefkantu_check(const uint8_t *order, size_t order_len,
                         const uint8_t *build, size_t build_len);
+
+// Runs a release script through a build: the check, 40, 46, then record by record 41 to 45; success writes one finish tick per record.
+uint64_t jefkantu_run(const uint8_t *order, size_t order_len,
+                      const uint8_t *build, size_t build_len,
+                      const uint8_t *script, size_t script_len,
+                      uint32_t *out, size_t out_len);
 
 #ifdef __cplusplus
 }

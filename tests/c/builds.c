@@ -1,4 +1,4 @@
-// The sample order planned, its build checked, and both refused where they must be.
+// The sample order planned, its build checked and run, and each refused where it must be.
 #include <stdio.h>
 #include <string.h>
 
@@ -73,9 +73,26 @@ static void checks(void) {
     answers("no build at all", jefkantu_check(order, sizeof order, other, 0), 20, JEFKANTU_NO_PLACE, 0);
 }
 
+// "P9: in the sample build, releases (tick, task, length) (0,1,4), (1,0,4), (1,2,3) finish at 4, 8, 4."
+static void runs(void) {
+    static const uint8_t script[18] = {
+        0x00, 0x00, 0x00, 0x80, 0x00, 0x20,
+        0x00, 0x00, 0x10, 0x00, 0x00, 0x20,
+        0x00, 0x00, 0x11, 0x00, 0x00, 0x18,
+    };
+    uint32_t out[5] = {7, 7, 7, 7, 7};
+    answers("the script of P9 runs", jefkantu_run(order, sizeof order, build, sizeof build, script, sizeof script, out, 5), 0, JEFKANTU_NO_PLACE, 3);
+    expect("its jobs finish at 4, 8 and 4", out[0] == 4 && out[1] == 8 && out[2] == 4);
+    expect("only the counted front changes", out[3] == 7 && out[4] == 7);
+    answers("an empty script is done", jefkantu_run(order, sizeof order, build, sizeof build, script, 0, out, 0), 0, JEFKANTU_NO_PLACE, 0);
+    answers("two places are too few", jefkantu_run(order, sizeof order, build, sizeof build, script, sizeof script, out, 2), 46, JEFKANTU_NO_PLACE, 0);
+    answers("five bytes are no record", jefkantu_run(order, sizeof order, build, sizeof build, script, 5, out, 5), 40, JEFKANTU_NO_PLACE, 0);
+}
+
 int main(void) {
     plans();
     checks();
+    runs();
     printf("%d checks passed\n", passed);
     return failed != 0;
 }

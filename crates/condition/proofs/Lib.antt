@@ -1,1 +1,2 @@
 pub mod Condition3
+pub mod Runs

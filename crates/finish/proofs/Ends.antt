@@ -47,7 +47,7 @@ module _ (scheduler : Scheduler) (ranked : Ranked (scheduler .outranks)) (releas
   ends-then s k a some count one = go (serves-own k (runningBefore scheduler releases (suc s)) one)
     where
       go : (a′ : ℕ) × (l : ℕ) × (runningBefore scheduler releases (suc s) ≡ runs k a′ l) → Ends scheduler releases k a (suc s)
-      go (a′ , l , e) = same (decLt a a′) (decLt a′ a)
+      go (a′, l, e) = same (decLt a a′) (decLt a′ a)
         where
           counted : RunsInLine scheduler releases (suc s) (runs k a′ l)
           counted = runs-in-line scheduler ranked releases (suc s) k a′ l e
@@ -68,6 +68,6 @@ module _ (scheduler : Scheduler) (ranked : Ranked (scheduler .outranks)) (releas
   ended-by t k a known rest before some =
       let c = Released k a + theirs scheduler releases a k - 1 in
       let enough : c < servedBefore scheduler releases k t =
-          omega (arith, all-served t k known rest, sum-suc (λ u. theirs scheduler releases u k) a, sum-grows (λ u. theirs scheduler releases u k) (suc a) t before) in
+      omega (arith, all-served t k known rest, sum-suc (λ u. theirs scheduler releases u k) a, sum-grows (λ u. theirs scheduler releases u k) (suc a) t before) in
       let x = sum-crosses (serves scheduler releases k) (λ u. serves-once k (runningBefore scheduler releases (suc u))) t c enough in
       (suc (x .0), x .1, ends-then (x .0) k a some (omega (arith, x .2)) (x .3))

@@ -70,7 +70,7 @@ module _ (table : List Task) (partitions : List ℕ) (n : ℕ) (script : List Re
       let S = schedulerOf table partitions n (partitionOf partitions k) in
       let r = rests S (ranked table) (patternOf script) 1_073_740_800 1_048_575 (omega (arith, released-most script n (1_048_575 + 1_073_740_801), work-most)) in
       let some : 0 < only (eqb (partitionOf partitions k) (partitionOf partitions k)) (patternOf script a k) =
-          omega (arith, only-true (eqb (partitionOf partitions k) (partitionOf partitions k)) (patternOf script a k) (eq-eqb (partitionOf partitions k) (partitionOf partitions k) refl), script-as-pattern table n script legal .records i l, legal .lengths i l) in
+      omega (arith, only-true (eqb (partitionOf partitions k) (partitionOf partitions k)) (patternOf script a k) (eq-eqb (partitionOf partitions k) (partitionOf partitions k) refl), script-as-pattern table n script legal .records i l, legal .lengths i l) in
       let f = ended-by S (ranked table) (patternOf script) (r .0) k a (legal .known i l) (r .3) (omega (arith, r .1, short .early i l)) some in
       (f .0, omega (arith, f .1, r .2), f .2)
 
