@@ -62,7 +62,7 @@ module _ (m : Machine) (tick : ℕ) where
       go : (b : Bool) → endsNow (at (m .task) p) (at (m .left) p) ≡ b → Dec (i ≡ at (m .job) p)
           → Hit p i (noted m tick p out) ⊎ ((at (noted m tick p out) i ≡ at out i) × Missed p i)
           → Hit (suc p) i (pick b (set (noted m tick p out) (at (m .job) p) tick) (noted m tick p out))
-            ⊎ ((at (pick b (set (noted m tick p out) (at (m .job) p) tick) (noted m tick p out)) i ≡ at out i) × Missed (suc p) i)
+          ⊎ ((at (pick b (set (noted m tick p out) (at (m .job) p) tick) (noted m tick p out)) i ≡ at out i) × Missed (suc p) i)
       go true e (yes d) ih = inl (p, omega arith, e, sym d, rw d (getD-set-same (noted m tick p out) (at (m .job) p) tick 0 (omega (arith, noted-length p out))))
       go true e (no d) (inl z) = inl (z .0, omega (arith, z .1), z .2, z .3, getD-set-other (noted m tick p out) (at (m .job) p) i tick 0 d ∙ z .4)
       go true e (no d) (inr z) = inr (getD-set-other (noted m tick p out) (at (m .job) p) i tick 0 d ∙ z .0, missed-more (z .1) (λ f f′. d (sym f′)))

@@ -97,7 +97,12 @@ fn tick_or_never(ticks: &[u32; Release::MOST], records: usize, i: usize) -> u32
 }
 
 // The next release, or never; ahead is each task's first record that has not joined.
-fn next_release(ticks: &[u32; Release::MOST], records: usize, ahead: [usize; Order::MOST_TASKS], tasks: usize) -> u32
+fn next_release(
+    ticks: &[u32; Release::MOST],
+    records: usize,
+    ahead: [usize; Order::MOST_TASKS],
+    tasks: usize,
+) -> u32
     requires { ⌜ (records ≤ 1024) × (tasks ≤ 32) ⌝ }
     ensures { λ r. ⌜ Soonest (λ k. tickOrNever (now (ticks .entry)) records (at ahead k)) tasks r ⌝ }
 {
@@ -114,7 +119,11 @@ fn end_or_never(task: usize, left: u32, tick: u32) -> u32
     requires { ⌜ tick + left ≤ never ⌝ }
     ensures { λ r. ⌜ r ≡ endOrNever task left tick ⌝ }
 {
-    if task < Order::MOST_TASKS { tick + left } else { NEVER }
+    if task < Order::MOST_TASKS {
+        tick + left
+    } else {
+        NEVER
+    }
 }
 
 // The next end, seen from a tick, or never.
@@ -125,13 +134,22 @@ fn next_end(machine: Machine, tick: u32) -> u32
     let mut soonest = NEVER;
     let mut p: usize = 0;
     while p < Build::MOST_PARTITIONS {
-        soonest = sooner(soonest, end_or_never(machine.task[p], machine.left[p], tick));
+        soonest = sooner(
+            soonest,
+            end_or_never(machine.task[p], machine.left[p], tick),
+        );
         p += 1;
     }
     soonest
 }
 
-fn due_then(ticks: &[u32; Release::MOST], lengths: &[u32; Release::MOST], records: usize, i: usize, tick: u32) -> u32
+fn due_then(
+    ticks: &[u32; Release::MOST],
+    lengths: &[u32; Release::MOST],
+    records: usize,
+    i: usize,
+    tick: u32,
+) -> u32
     requires { ⌜ records ≤ 1024 ⌝ }
     ensures { λ r. ⌜ r ≡ dueOf (now (ticks .entry)) (now (lengths .entry)) records i tick ⌝ }
 {
@@ -173,7 +191,12 @@ fn ahead_then(next: &[usize; Release::MOST], i: usize, release: u32) -> usize
 }
 
 // Each task's first record that has not joined, once the releases have.
-fn move_on(next: &[usize; Release::MOST], ahead: [usize; Order::MOST_TASKS], releases: [u32; Order::MOST_TASKS], tasks: usize) -> [usize; Order::MOST_TASKS]
+fn move_on(
+    next: &[usize; Release::MOST],
+    ahead: [usize; Order::MOST_TASKS],
+    releases: [u32; Order::MOST_TASKS],
+    tasks: usize,
+) -> [usize; Order::MOST_TASKS]
     requires { ⌜ (tasks ≤ 32) × ((k : ℕ) → k < tasks → (at releases k ≡ 0 → ⊥) → at ahead k < 1024) ⌝ }
     ensures { λ r. ⌜ MovedOn (now (next .entry)) ahead releases tasks r ⌝ }
 {
@@ -249,7 +272,12 @@ fn run_events(
 }
 
 // The finish tick of each record.
-pub fn run_script(order: Order, partitions: [u32; Order::MOST_TASKS], script: &[u8], out: &mut [u32])
+pub fn run_script(
+    order: Order,
+    partitions: [u32; Order::MOST_TASKS],
+    script: &[u8],
+    out: &mut [u32],
+)
     requires { ⌜ Runs order partitions (now script) (length (now out)) ⌝ }
     ensures { λ _. ⌜ now (out .exit) ≡ ranOut (order .table) partitions (order .tasks) (scriptOf (now (script .entry))) (now (out .entry)) ⌝ }
 {
@@ -262,5 +290,15 @@ pub fn run_script(order: Order, partitions: [u32; Order::MOST_TASKS], script: &[
     let lines = line_up(script, records);
     let next = lines.next;
     let first = lines.first;
-    run_events(partitions, deadlines, tasks, records, &ticks, &lengths, &next, first, out);
+    run_events(
+        partitions,
+        deadlines,
+        tasks,
+        records,
+        &ticks,
+        &lengths,
+        &next,
+        first,
+        out,
+    );
 }

@@ -6,7 +6,6 @@ use mathlib.Core.List.{List, [], _∷_}
 use lib.Dec.{eqb}
 use borrow.Author.Tests.{eqb-true, eqb-false}
 use Rattle.laws.specs.Choice.{pick}
-use Rattle.model.specs.declared.order.Task.{Task}
 use Rattle.model.specs.declared.build.Release.{Release}
 use Rattle.machine.specs.Step.{State}
 use Rattle.machine.specs.Pattern.{recordOf, patternOf}
@@ -14,7 +13,6 @@ use Rattle.machine.specs.Box.{partitionOf, memberOf, schedulerOf, boxBefore}
 use Rattle.machine.specs.Claims.{AgreeOn}
 use Rattle.machine.proofs.Isolation.{state-same, members-agree}
 use Rattle.search.proofs.Smallest.{smallest-same}
-use Rattle.search.specs.declared.Found.{Found}
 use Rattle.finish.specs.Finish.{usedUp, mostTick, finishFound, foundTick, finishOf, recordsOf}
 use Rattle.finish.specs.Claims.{RunsApart}
 

@@ -1,20 +1,17 @@
 -- A job that was released before a tick at which its partition is free has ended by then.
-use Prim.Native.Nat.{ℕ, zero, suc, _+_, _-_, _≤_, _<_}
-use mathlib.Core.Path.{_≡_, refl, sym, _∙_, ap, subst}
-use mathlib.Core.Bool.{Bool, true, false}
-use mathlib.Core.List.{List, []}
+use Prim.Native.Nat.{ℕ, suc, _+_, _-_, _≤_, _<_}
+use mathlib.Core.Path.{_≡_, sym, _∙_, ap}
 use native.Mathlib.Decide.{decLt}
 use native.Mathlib.Omega.{arith}
 use lib.Dec.{eqb}
 use borrow.Author.Tests.{eqb-true}
-use Rattle.laws.specs.Sums.{only, sum}
 use Rattle.laws.proofs.Sums.{sum-suc}
 use Rattle.laws.proofs.Growth.{sum-grows, sum-crosses}
 use Rattle.laws.proofs.Only.{only-some}
 use Rattle.laws.proofs.Picked.{only-le}
 use Rattle.machine.specs.Step.{Pattern, Running, free, runs, Scheduler, Ends}
 use Rattle.machine.proofs.Highest.{Ranked}
-use Rattle.machine.proofs.View.{runningBefore, waitingBefore}
+use Rattle.machine.proofs.View.{runningBefore}
 use Rattle.machine.proofs.Line.{releasedBefore, lengths, lengths-none}
 use Rattle.machine.proofs.Work.{servesTask, leftOf, theirs, serves, servedBefore, RunsInLine}
 use Rattle.machine.proofs.Once.{runs-in-line, conserved}
@@ -50,7 +47,7 @@ module _ (scheduler : Scheduler) (ranked : Ranked (scheduler .outranks)) (releas
   ends-then s k a some count one = go (serves-own k (runningBefore scheduler releases (suc s)) one)
     where
       go : (a′ : ℕ) × (l : ℕ) × (runningBefore scheduler releases (suc s) ≡ runs k a′ l) → Ends scheduler releases k a (suc s)
-      go (a′ , l , e) = same (decLt a a′) (decLt a′ a)
+      go (a′, l, e) = same (decLt a a′) (decLt a′ a)
         where
           counted : RunsInLine scheduler releases (suc s) (runs k a′ l)
           counted = runs-in-line scheduler ranked releases (suc s) k a′ l e
@@ -71,6 +68,6 @@ module _ (scheduler : Scheduler) (ranked : Ranked (scheduler .outranks)) (releas
   ended-by t k a known rest before some =
       let c = Released k a + theirs scheduler releases a k - 1 in
       let enough : c < servedBefore scheduler releases k t =
-          omega (arith, all-served t k known rest, sum-suc (λ u. theirs scheduler releases u k) a, sum-grows (λ u. theirs scheduler releases u k) (suc a) t before) in
+      omega (arith, all-served t k known rest, sum-suc (λ u. theirs scheduler releases u k) a, sum-grows (λ u. theirs scheduler releases u k) (suc a) t before) in
       let x = sum-crosses (serves scheduler releases k) (λ u. serves-once k (runningBefore scheduler releases (suc u))) t c enough in
       (suc (x .0), x .1, ends-then (x .0) k a some (omega (arith, x .2)) (x .3))

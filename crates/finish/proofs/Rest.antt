@@ -1,8 +1,8 @@
 -- A partition comes to rest: with a bound on the work, some tick finds it free.
 use Prim.Native.Nat.{ℕ, zero, suc, _+_, _≤_, _<_}
-use mathlib.Core.Path.{_≡_, refl, sym, _∙_, ap}
+use mathlib.Core.Path.{_≡_, refl, ap}
 use mathlib.Core.Logic.{_⊎_, inl, inr, ⊎-elim}
-use native.Mathlib.Nat.{add-suc, add-zero}
+use native.Mathlib.Nat.{add-suc}
 use native.Mathlib.Omega.{arith}
 use Rattle.laws.specs.Sums.{sum}
 use Rattle.laws.proofs.Sums.{sum-suc, sum-le, sum-same, sum-add, sum-in}
@@ -10,7 +10,6 @@ use Rattle.laws.proofs.Picked.{only-le}
 use Rattle.machine.specs.Step.{Pattern, Running, free, runs, Scheduler, ofMembers}
 use Rattle.machine.proofs.Highest.{Ranked}
 use Rattle.machine.proofs.View.{runningBefore}
-use Rattle.machine.proofs.Line.{releasedBefore}
 use Rattle.machine.proofs.Work.{servesTask, serves-itself, theirs, serves, servedBefore}
 use Rattle.machine.proofs.Once.{conserved, runs-own}
 

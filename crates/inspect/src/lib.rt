@@ -4,7 +4,6 @@ mod members;
 mod places;
 
 pub use members::partitions_of;
-
 use model::Answer;
 use model::Build;
 use model::Order;

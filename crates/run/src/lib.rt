@@ -24,7 +24,12 @@ fn partitions_in(build: &[u8]) -> [u32; Order::MOST_TASKS]
 }
 
 // 40 to 46 and the finish ticks, of an order and partitions that were checked.
-fn run_checked(order: Order, partitions: [u32; Order::MOST_TASKS], script: &[u8], out: &mut [u32]) -> Answer
+fn run_checked(
+    order: Order,
+    partitions: [u32; Order::MOST_TASKS],
+    script: &[u8],
+    out: &mut [u32],
+) -> Answer
     requires { ⌜ WithinLimits order × ((k : ℕ) → k < order .tasks → partitionOf partitions k < 32) ⌝ }
     ensures answers { λ r. ⌜ r ≡ firstBroken (recordsIn (now (script .entry))) (scriptRules (order .table) (order .tasks) (now (script .entry)) (length (now (out .entry)))) ⌝ }
     ensures leaves { λ r. ⌜ now (out .exit) ≡ outputAfter r (finishTicks (order .table) partitions (order .tasks) (scriptOf (now (script .entry)))) (now (out .entry)) ⌝ }

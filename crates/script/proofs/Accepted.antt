@@ -153,9 +153,13 @@ module _ (table : List Task) (n : ℕ) (s : List ℕ) (places : ℕ) where
   unfolding scriptRules allHold recordsIn
   accepted-rules a =
       let whole = a .whole in
-      let few = a .few in
-      (rw (eq-eqb (length s % 6) 0 (omega arith)) (le-leb (length s) (scriptLength mostRecords) (omega arith)), (le-leb _ _ (a .room),
-        scan-all (recordRules table n s) (recordsIn s) (λ i l. right-record table n s i (legal-right table n s (a .legal) (a .spares) i l))))
+      let few = a .few in (
+        rw (eq-eqb (length s % 6) 0 (omega arith)) (le-leb (length s) (scriptLength mostRecords) (omega arith)),
+        (
+          le-leb _ _ (a .room),
+          scan-all (recordRules table n s) (recordsIn s) (λ i l. right-record table n s i (legal-right table n s (a .legal) (a .spares) i l)),
+        ),
+      )
 
 pub rules-of-scripts : RulesOfScripts
 rules-of-scripts table n s places = (rules-accepted table n s places, accepted-rules table n s places)

@@ -1,28 +1,26 @@
 -- Each of 40 to 46 tests what it says.
 use Prim.Native.Nat.{ℕ, zero, suc, _+_, _%_, _≤_, _<_}
 use mathlib.Core.Path.{_≡_, refl, sym, ap, _∙_, subst}
-use mathlib.Core.Bool.{Bool, true, false, _&&_}
-use mathlib.Core.List.{List, [], _∷_}
+use mathlib.Core.Bool.{Bool, true, false}
+use mathlib.Core.List.{List}
 use mathlib.Core.Logic.{_⊎_, inl, inr, ⊎-elim, _↔_}
 use native.Mathlib.Decide.{decLt}
 use native.Mathlib.Nat.{eq-or-lt-of-le, le-of-suc-le-suc}
 use native.Mathlib.Omega.{arith}
-use lib.Dec.{leb, ltb, eqb}
+use lib.Dec.{leb, eqb}
 use lib.ListN.{length}
-use borrow.Author.Tests.{lt-ltb, ltb-true, eq-eqb, ne-eqb, eqb-true, eqb-false, le-leb, leb-true}
+use borrow.Author.Tests.{lt-ltb, ltb-true, eq-eqb, eqb-true, eqb-false, le-leb, leb-true}
 use Rattle.laws.specs.Choice.{pick}
-use Rattle.laws.specs.Joined.{joined}
 use Rattle.laws.proofs.Choice.{within-true, true-within}
 use Rattle.model.specs.declared.order.Task.{Task}
 use Rattle.model.specs.declared.build.Release.{Release}
-use Rattle.model.specs.declared.answer.Refusal.{Refusal}
 use Rattle.model.specs.Limits.{mostRecords, scriptLength}
 use Rattle.model.specs.Stated.{TestsTell}
 use Rattle.model.proofs.Stated.{tell-all, refused-offence, offence-refused}
 use Rattle.demand.specs.Releases.{periodOf}
 use Rattle.machine.specs.Pattern.{runOf, Before}
 use Rattle.script.specs.Script.{releaseAt, spareAt, recordsIn, inOrder, earliest, releaseRules, recordRules, scriptRules, lengthRight}
-use Rattle.script.specs.Meaning.{WholeRecords, AfterPrevious, LengthRight, LastEarlier, FarEnough, ScriptSays}
+use Rattle.script.specs.Meaning.{WholeRecords, AfterPrevious, FarEnough, ScriptSays}
 use Rattle.script.specs.Accepted.{ScriptRefusedExactly}
 use Rattle.script.proofs.Accepted.{both-true, before-true, true-before}
 

@@ -171,7 +171,7 @@ module _ (table : List Task) (partitions : List ℕ) (n : ℕ) (script : List Re
           let f = first-of p k j js below e in
           let own-job : at (r .job) p ≡ at (m .oldest) k = job-now p l ∙ (job-starts (at (m .job) p) (m .oldest) (at starts p) small ∙ ap (at (m .oldest)) b) in
           let length-then : at (r .left) p ≡ lengthOf script (at (m .oldest) k) - 1 =
-              left-now p l ∙ (left-starts (at (m .left) p) lengths _ (at starts p) small ∙ (ap (λ (x : ℕ). at lengths x - 1) (job-starts (at (m .job) p) (m .oldest) (at starts p) small ∙ ap (at (m .oldest)) b) ∙ ap (λ (x : ℕ). x - 1) (laid .length-at (at (m .oldest) k) (f .0)))) in
+          left-now p l ∙ (left-starts (at (m .left) p) lengths _ (at starts p) small ∙ (ap (λ (x : ℕ). at lengths x - 1) (job-starts (at (m .job) p) (m .oldest) (at starts p) small ∙ ap (at (m .oldest)) b) ∙ ap (λ (x : ℕ). x - 1) (laid .length-at (at (m .oldest) k) (f .0)))) in
           let own : taskOf script (at (m .oldest) k) ≡ k = follows .waits k below .own (f .0) in
           subst (ShowsRunning script r p) (sym e′)
           (task-now p l ∙ (task-free (at (m .task) p) (at (m .left) p) (at starts p) zero-left ∙ b), length-then ∙ ap (λ (x : Job). x .length - 1) (sym (f .1)), rw own-job (f .0), rw own-job own, rw own-job (ap (λ (x : Job). x .release) (sym (f .1))))

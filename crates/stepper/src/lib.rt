@@ -32,7 +32,11 @@ fn count_of(release: u32) -> u32
 }
 
 // All releases of a tick join.
-fn join(waiting: [u32; Order::MOST_TASKS], releases: [u32; Order::MOST_TASKS], tasks: usize) -> [u32; Order::MOST_TASKS]
+fn join(
+    waiting: [u32; Order::MOST_TASKS],
+    releases: [u32; Order::MOST_TASKS],
+    tasks: usize,
+) -> [u32; Order::MOST_TASKS]
     requires { ⌜ (tasks ≤ 32) × ((k : ℕ) → k < tasks → at waiting k ≤ 1024) ⌝ }
     ensures { λ r. ⌜ Joined tasks waiting releases r ⌝ }
 {
@@ -89,7 +93,10 @@ fn if_free(left: u32, chosen: usize) -> usize
 }
 
 // The task that starts in each partition: the chosen one where it is free.
-fn starting(left: [u32; Build::MOST_PARTITIONS], chosen: [usize; Build::MOST_PARTITIONS]) -> [usize; Build::MOST_PARTITIONS]
+fn starting(
+    left: [u32; Build::MOST_PARTITIONS],
+    chosen: [usize; Build::MOST_PARTITIONS],
+) -> [usize; Build::MOST_PARTITIONS]
     ensures { λ r. ⌜ Starts left chosen r ⌝ }
 {
     let mut starts = [Order::MOST_TASKS; Build::MOST_PARTITIONS];
@@ -110,20 +117,32 @@ fn task_then(task: usize, left: u32, starts: usize) -> usize
 fn job_then(job: usize, oldest: &[usize; Order::MOST_TASKS], starts: usize) -> usize
     ensures { λ r. ⌜ r ≡ jobThen job (now (oldest .entry)) starts ⌝ }
 {
-    if starts < Order::MOST_TASKS { oldest[starts] } else { job }
+    if starts < Order::MOST_TASKS {
+        oldest[starts]
+    } else {
+        job
+    }
 }
 
 fn left_then(left: u32, lengths: &[u32; Release::MOST], job: usize, starts: usize) -> u32
     requires { ⌜ (starts < 32 → job < 1024) ⌝ }
     ensures { λ r. ⌜ r ≡ leftThen left (now (lengths .entry)) job starts ⌝ }
 {
-    if starts < Order::MOST_TASKS { less(lengths[job], 1) } else { less(left, 1) }
+    if starts < Order::MOST_TASKS {
+        less(lengths[job], 1)
+    } else {
+        less(left, 1)
+    }
 }
 
 fn waiting_then(waiting: u32, starts: usize, k: usize) -> u32
     ensures { λ r. ⌜ r ≡ waitingThen waiting starts k ⌝ }
 {
-    if starts == k { less(waiting, 1) } else { waiting }
+    if starts == k {
+        less(waiting, 1)
+    } else {
+        waiting
+    }
 }
 
 fn oldest_then(oldest: usize, next: &[usize; Release::MOST], starts: usize, k: usize) -> usize
@@ -149,7 +168,11 @@ impl Machine {
     }
 
     // What runs in each partition goes on, or the oldest job of the task that starts begins; and a tick passes.
-    fn serve(self, starts: [usize; Build::MOST_PARTITIONS], lengths: &[u32; Release::MOST]) -> Machine
+    fn serve(
+        self,
+        starts: [usize; Build::MOST_PARTITIONS],
+        lengths: &[u32; Release::MOST],
+    ) -> Machine
         requires { ⌜ Sized self × ((p : ℕ) → p < 32 → at starts p < 32 → at (self .oldest) (at starts p) < 1024) ⌝ }
         ensures { λ r. ⌜ Served self starts (now (lengths .entry)) 32 r ⌝ }
     {

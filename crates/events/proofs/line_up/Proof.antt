@@ -55,17 +55,17 @@ loop-less : tie.Need-loop-less Inv-loop μ-loop
 loop-less c = search needs
 
 loop-again : tie.Need-loop-again Inv-loop μ-loop
-loop-again c = 
+loop-again c =
     let l = c .before .before .before .loop in
     let s = c .before .before .before .before .before in
     let script = now (s .args .script) in
     let count : length (scriptOf script) ≡ s .args .records = script-length script ∙ sym (s .pre .0) in
     let same : c .before .read-release .result .task ≡ taskOf (scriptOf script) (l .i - 1) =
-        ap (λ (r : Release). r .task) (c .before .read-release .ensures ∙ sym (script-record script (l .i - 1) (omega (arith, s .pre .0)))) in
+    ap (λ (r : Release). r .task) (c .before .read-release .ensures ∙ sym (script-record script (l .i - 1) (omega (arith, s .pre .0)))) in
     (omega arith, lined-more (scriptOf script) (l .i) (c .before .read-release .result .task) (l .first) (l .next) (c .before .before .loop-test .taken) (omega arith) (omega (arith, s .pre .1)) (task-few (c .before)) same (l .inv .1))
 
 returns : tie.Need-returns Inv-loop μ-loop
-returns c = 
+returns c =
     let l = c .before .loop in
     let z : l .i ≡ 0 = omega (arith, c .loop-test .left) in
     record { places = l .inv .1 .first-places; first-at = rw z at (l .inv .1 .first-at); next-at = λ i h. l .inv .1 .next-at i (omega arith) h }

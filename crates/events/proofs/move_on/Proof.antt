@@ -47,7 +47,7 @@ loop-less : tie.Need-loop-less Inv-loop μ-loop
 loop-less c = search needs
 
 loop-again : tie.Need-loop-again Inv-loop μ-loop
-loop-again c = 
+loop-again c =
     let l = c .before .before .loop in
     let a = c .before .before .before .args in
     (omega arith, simp length-set (l .inv .1), fill-more (l .then) (λ (i : ℕ). aheadThen (now (a .next)) (at (a .t2) i) (at (a .t3) i)) (l .k) (c .ahead-then .result) (omega arith) (l .inv .2) (c .ahead-then .ensures))

@@ -42,7 +42,7 @@ loop-less : tie.Need-loop-less Inv-loop μ-loop
 loop-less c = search needs
 
 loop-again : tie.Need-loop-again Inv-loop μ-loop
-loop-again c = 
+loop-again c =
     let l = c .before .before .before .before .before .loop in
     let a = c .before .before .before .before .before .before .args in
     (omega arith, soonest-more (λ (q : ℕ). endOrNever (at (a .t1 .task) q) (at (a .t1 .left) q) (a .tick)) (l .p) (l .soonest) (c .before .end-or-never .result) (c .sooner .result) (l .inv .1) (c .before .end-or-never .ensures) (c .sooner .ensures))

@@ -37,7 +37,7 @@ loop-less : tie.Need-loop-less Inv-loop μ-loop
 loop-less c = search needs
 
 loop-again : tie.Need-loop-again Inv-loop μ-loop
-loop-again c = 
+loop-again c =
     let l = c .before .before .before .loop in
     let a = c .before .before .before .before .args in
     (omega arith, soonest-more (λ (i : ℕ). tickOrNever (now (a .ticks)) (a .records) (at (a .t3) i)) (l .k) (l .soonest) (c .before .tick-or-never .result) (c .sooner .result) (l .inv .1) (c .before .tick-or-never .ensures) (c .sooner .ensures))

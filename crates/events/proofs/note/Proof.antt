@@ -42,7 +42,7 @@ element-copy-out-i : tie.Need-element-copy-out-i Inv-loop μ-loop
 element-copy-out-i c = search needs
 
 mul-out : tie.Need-mul-out Inv-loop μ-loop
-mul-out c = 
+mul-out c =
     let s = c .before .before .before .before .before .before .before .before in
     let l = c .before .before .before .before .before .before .loop in
     let e = sym (c .before .before .ends-now .ensures) ∙ c .before .if1 .taken in
@@ -51,7 +51,7 @@ mul-out c =
     search needs
 
 slice-write-out : tie.Need-slice-write-out Inv-loop μ-loop
-slice-write-out c = 
+slice-write-out c =
     let s = c .before .before .before .before .before .before .before .before in
     let l = c .before .before .before .before .before .before .loop in
     let e = sym (c .before .before .ends-now .ensures) ∙ c .before .if1 .taken in
@@ -66,7 +66,7 @@ loop-less : tie.Need-loop-less Inv-loop μ-loop
 loop-less c = search needs
 
 loop-again : tie.Need-loop-again Inv-loop μ-loop
-loop-again c = 
+loop-again c =
     let s = c .before .before .before .before .before .before .before .before in
     let l = c .before .before .before .before .before .before .loop in
     let e = sym (c .before .before .ends-now .ensures) ∙ c .before .if1 .taken in
@@ -79,19 +79,19 @@ loop-less-2 : tie.Need-loop-less-2 Inv-loop μ-loop
 loop-less-2 c = search needs
 
 loop-again-2 : tie.Need-loop-again-2 Inv-loop μ-loop
-loop-again-2 c = 
+loop-again-2 c =
     let s = c .before .before .before .before .before .before .before in
     let l = c .before .before .before .before .before .loop in
     (omega arith, l .inv .1 ∙ sym (noted-on (s .args .t1) (s .args .tick) (l .p) (s .args .out .now) (sym (c .before .ends-now .ensures) ∙ c .if1 .left)))
 
 same-length : tie.Need-same-length Inv-loop μ-loop
-same-length c = 
+same-length c =
     let s = c .before .before .before in
     let l = c .before .loop in
     ap length (l .inv .1) ∙ noted-length (s .args .t1) (s .args .tick) (l .p) (s .args .out .now)
 
 returns : tie.Need-returns Inv-loop μ-loop
-returns c = 
+returns c =
     let s = c .before .before .before in
     let l = c .before .loop in
     l .inv .1 ∙ ap (λ (x : ℕ). noted (s .args .t1) (s .args .tick) x (s .args .out .now)) (le-antisymm (l .inv .0) (c .loop-test .left))

@@ -36,7 +36,7 @@ loop-less : tie.Need-loop-less Inv-loop μ-loop
 loop-less c = search needs
 
 loop-again : tie.Need-loop-again Inv-loop μ-loop
-loop-again c = 
+loop-again c =
     let l = c .before .before .loop in
     let s = now (c .before .before .before .before .args .script) in
     (omega arith, simp length-set (l .inv .1), fill-more (l .lengths) (λ (x : ℕ). releaseAt s x .length) (l .i) (c .read-release .result .length) (omega arith) (l .inv .2) (ap (λ (r : Release). r .length) (c .read-release .ensures)))

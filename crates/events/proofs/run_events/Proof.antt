@@ -94,12 +94,12 @@ loop-holds c = λ so.
     course-first (a .partitions) (a .deadlines) (a .tasks) (a .records) (now (a .ticks)) (now (a .lengths)) (now (a .next)) (a .first) (length (now (a .out))) so (c .new .result) (now (a .out)) (c .new .ensures)
 
 next-release-requires : tie.Need-next-release-requires Inv-loop μ-loop
-next-release-requires c κs = 
+next-release-requires c κs =
     let so = c .before .before .before .pre in
     (omega (arith, so .count, so .laid .few), so .given .few)
 
 next-end-requires : tie.Need-next-end-requires Inv-loop μ-loop
-next-end-requires c κs = 
+next-end-requires c κs =
     let s = c .before .before .before .before in
     let a = s .args in
     let so = s .pre in
@@ -121,33 +121,33 @@ skip-requires : tie.Need-skip-requires Inv-loop μ-loop
 skip-requires c κs = search needs
 
 note-requires : tie.Need-note-requires Inv-loop μ-loop
-note-requires c κs = 
+note-requires c κs =
     let s = c .before .before .before in
     fits-here s (Start s .pre) (c .before .before .if1 .left) (c .before .skip .result) (c .before .skip .ensures)
 
 due-requires : tie.Need-due-requires Inv-loop μ-loop
-due-requires c κs = 
+due-requires c κs =
     let so = c .before .before .before .before .before .before .before .before .before .before .before .before .pre in
     (omega (arith, so .count, so .laid .few), so .given .few)
 
 tick-requires : tie.Need-tick-requires Inv-loop μ-loop
-tick-requires c κs = 
+tick-requires c κs =
     let s = c .before .before .before .before .before .before .before in
     ready-here s (Start s .pre) (c .before .before .before .before .before .before .if1 .left) (c .before .before .before .before .before .skip .result) (c .before .before .before .before .before .skip .ensures) (c .due .result) (c .due .ensures)
 
 move-on-requires : tie.Need-move-on-requires Inv-loop μ-loop
-move-on-requires c κs = 
+move-on-requires c κs =
     let s = c .before .before .before .before .before .before .before .before in
     (Start s .pre .given .few, moves-here s (Start s .pre) (c .before .before .before .before .before .before .before .if1 .left) (c .before .before .before .before .before .before .skip .result) (c .before .before .before .before .before .before .skip .ensures) (c .before .due .result) (c .before .due .ensures))
 
 add-tick : tie.Need-add-tick Inv-loop μ-loop
-add-tick c = 
+add-tick c =
     let s = c .before .before .before .before .before .before .before .before .before in
     let some = c .before .before .before .before .before .before .before .before .if1 .left in
     search needs
 
 loop-less : tie.Need-loop-less Inv-loop μ-loop
-loop-less c = 
+loop-less c =
     let s = c .before .before .before .before .before .before .before .before .before in
     sooner-here s (Start s .pre) (c .before .before .before .before .before .before .before .before .if1 .left) (c .before .before .before .before .before .before .before .skip .result) (c .before .before .before .before .before .before .before .skip .ensures)
 

@@ -9,7 +9,7 @@ read-build-header-requires : tie.Need-read-build-header-requires
 read-build-header-requires c κs = search needs
 
 read-build-requires : tie.Need-read-build-requires
-read-build-requires c κs = 
+read-build-requires c κs =
     let h = c .read-build-header .ensures in
     let pre = c .before .before .pre in
     (h, rw h (pre .0), rw h (pre .1))

@@ -27,7 +27,7 @@ enum-known-checked : tie.Need-enum-known-checked
 enum-known-checked c = search needs
 
 returns : tie.Need-returns
-returns c = 
+returns c =
     let a = c .before .before .before .before .before .before .before .before .args in
     ran-refused (now (a .order)) (now (a .build)) (now (a .script)) (now (a .out)) (sym (c .before .before .before .check .ensures) ∙ c .before .checked .given .1)
 
@@ -38,12 +38,12 @@ read-order-requires : tie.Need-read-order-requires
 read-order-requires c κs = search needs
 
 partitions-in-requires : tie.Need-partitions-in-requires
-partitions-in-requires c κs = 
+partitions-in-requires c κs =
     let a = c .before .before .before .before .before .before .before .before .args in
     counts-few (now (a .order)) (now (a .build)) (done (c .before))
 
 run-checked-requires : tie.Need-run-checked-requires
-run-checked-requires c κs = 
+run-checked-requires c κs =
     let a = c .before .before .before .before .before .before .before .before .before .before .args in
     let e = done (c .before .before .before) in
     let o : c .before .before .read-order .result .order ≡ orderAt (now (a .order)) = read-same (c .before .before) in
@@ -53,7 +53,7 @@ same-length : tie.Need-same-length
 same-length c = search needs
 
 returns-2 : tie.Need-returns-2
-returns-2 c = 
+returns-2 c =
     let a = c .before .before .before .before .before .before .before .before .before .before .before .before .before .args in
     ran-on (now (a .order)) (now (a .build)) (now (a .script)) (now (a .out)) (done (c .before .before .before .before .before .before)) (read-same (c .before .before .before .before .before)) (c .before .before .before .before .partitions-in .ensures) (c .before .before .run-checked .ensures .0) (c .before .before .run-checked .ensures .1)
 

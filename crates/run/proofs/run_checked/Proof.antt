@@ -17,7 +17,7 @@ enum-known-judged-2 : tie.Need-enum-known-judged-2
 enum-known-judged-2 c = search needs
 
 run-script-requires : tie.Need-run-script-requires
-run-script-requires c κs = 
+run-script-requires c κs =
     let j = c .before .before .before .before in
     let s = j .before .before .before in
     runs-so (s .args .order) (s .args .partitions) (now (s .args .script)) (length (now (s .args .out))) _ (s .pre .0) (s .pre .1) (sym (j .judge-script .ensures) ∙ c .before .before .judged2 .given .1)
@@ -29,7 +29,7 @@ same-length : tie.Need-same-length
 same-length c = search needs
 
 returns-2 : tie.Need-returns-2
-returns-2 c = 
+returns-2 c =
     let j = c .before .before .before .before .before .before .before in
     let a = c .before .before .before .before .before .before .before .before .before .before .args in
     let judged = c .before .before .before .before .before .judged2 .given .1 in

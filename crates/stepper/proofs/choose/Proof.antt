@@ -38,7 +38,7 @@ array-read-better-2 : tie.Need-array-read-better-2 Inv-loop μ-loop
 array-read-better-2 c = let h = c .before .before .before .pre .1 (c .before .before .loop .k) (c .before .loop-test .taken) in search needs
 
 better-requires : tie.Need-better-requires Inv-loop μ-loop
-better-requires c κs = 
+better-requires c κs =
     let s = c .before .before .before in
     let l = c .before .before .loop in
     let home = s .pre .1 (l .k) (c .before .loop-test .taken) in
@@ -57,13 +57,13 @@ loop-less : tie.Need-loop-less Inv-loop μ-loop
 loop-less c = search needs
 
 loop-again : tie.Need-loop-again Inv-loop μ-loop
-loop-again c = 
+loop-again c =
     let s = c .before .before .before .before in
     let l = c .before .before .before .loop in
     (omega arith, chosen-more (s .args .t1) (s .args .t2) (s .args .t4) (l .k) (c .better .result) (l .chosen) (s .pre .1 (l .k) (c .before .before .loop-test .taken)) (c .better .ensures) (l .inv .1))
 
 returns : tie.Need-returns Inv-loop μ-loop
-returns c = 
+returns c =
     let a = c .before .before .args in
     rw (le-antisymm (c .before .loop .inv .0) (c .loop-test .left)) at (c .before .loop .inv .1)
 

@@ -34,7 +34,7 @@ count-of-requires : tie.Need-count-of-requires Inv-loop μ-loop
 count-of-requires c κs = search needs
 
 add-joined : tie.Need-add-joined Inv-loop μ-loop
-add-joined c = 
+add-joined c =
     let l = c .before .before .loop in
     let s = c .before .before .before in
     omega (arith, c .count-of .ensures, count-most (at (s .args .t2) (l .k)), s .pre .1 (l .k) (omega arith))
@@ -52,7 +52,7 @@ loop-less : tie.Need-loop-less Inv-loop μ-loop
 loop-less c = search needs
 
 loop-again : tie.Need-loop-again Inv-loop μ-loop
-loop-again c = 
+loop-again c =
     let l = c .before .before .loop in
     let a = c .before .before .before .args in
     (omega arith, simp length-set (l .inv .1), fill-more (l .joined) (λ (i : ℕ). at (a .t1) i + countOf (at (a .t2) i)) (l .k) _ (omega arith) (l .inv .2) (ap (λ (x : ℕ). at (a .t1) (l .k) + x) (c .count-of .ensures)))

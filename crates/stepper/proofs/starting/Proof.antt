@@ -45,7 +45,7 @@ loop-less : tie.Need-loop-less Inv-loop μ-loop
 loop-less c = search needs
 
 loop-again : tie.Need-loop-again Inv-loop μ-loop
-loop-again c = 
+loop-again c =
     let l = c .before .before .loop in
     let a = c .before .before .before .args in
     (omega arith, simp length-set (l .inv .1), fill-more (l .starts) (λ (q : ℕ). startsOf (at (a .t1) q) (at (a .t2) q)) (l .p) (c .if-free .result) (omega arith) (l .inv .2) (c .if-free .ensures))

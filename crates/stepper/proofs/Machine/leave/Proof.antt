@@ -75,7 +75,7 @@ loop-less : tie.Need-loop-less Inv-loop μ-loop
 loop-less c = search needs
 
 loop-again : tie.Need-loop-again Inv-loop μ-loop
-loop-again c = 
+loop-again c =
     let s = c .before .before .before .before .before .before in
     let l = c .before .before .before .before .before .loop in
     (omega arith, left-more (s .args .t1) (s .args .t2) (s .args .t4) (now (s .args .next)) (l .k) (c .before .before .waiting-then .result) (c .oldest-then .result) (l .then) (omega (arith, s .pre .1)) (c .before .before .waiting-then .ensures) (c .oldest-then .ensures) (l .inv .1))

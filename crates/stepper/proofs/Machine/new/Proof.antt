@@ -4,7 +4,7 @@ use Rattle.stepper.proofs.Machine.new.Statement.{statement}
 use Rattle.stepper.proofs.Machine.new.Tie as tie
 
 returns : tie.Need-returns
-returns c = 
+returns c =
     record {
       sized = record { waiting = refl; oldest = c .pre; task = refl; job = refl; left = refl };
       oldest = refl;

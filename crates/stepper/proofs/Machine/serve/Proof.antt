@@ -88,12 +88,14 @@ loop-less : tie.Need-loop-less Inv-loop μ-loop
 loop-less c = search needs
 
 loop-again : tie.Need-loop-again Inv-loop μ-loop
-loop-again c = 
+loop-again c =
     let s = c .before .before .before .before .before .before .before .before .before .before .before in
     let l = c .before .before .before .before .before .before .before .before .before .loop in
-    let job = c .before .before .before .before .before .job-then .ensures in
-    (omega arith, served-more (s .args .t1) (s .args .t2) (now (s .args .lengths)) (l .p) (c .before .before .task-then .result) (c .before .before .before .before .before .job-then .result) (c .left-then .result) (l .then) (c .before .before .before .before .before .before .before .before .loop-test .taken) (c .before .before .task-then .ensures) job
-    (c .left-then .ensures ∙ ap (λ (x : ℕ). leftThen (at (s .args .t1 .left) (l .p)) (now (s .args .lengths)) x (at (s .args .t2) (l .p))) job) (l .inv .1))
+    let job = c .before .before .before .before .before .job-then .ensures in (
+      omega arith,
+      served-more (s .args .t1) (s .args .t2) (now (s .args .lengths)) (l .p) (c .before .before .task-then .result) (c .before .before .before .before .before .job-then .result) (c .left-then .result) (l .then) (c .before .before .before .before .before .before .before .before .loop-test .taken) (c .before .before .task-then .ensures) job
+          (c .left-then .ensures ∙ ap (λ (x : ℕ). leftThen (at (s .args .t1 .left) (l .p)) (now (s .args .lengths)) x (at (s .args .t2) (l .p))) job) (l .inv .1),
+    )
 
 returns : tie.Need-returns Inv-loop μ-loop
 returns c = rw (le-antisymm (c .before .loop .inv .0) (c .loop-test .left)) at (c .before .loop .inv .1)

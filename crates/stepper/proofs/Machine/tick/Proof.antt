@@ -5,13 +5,13 @@ use Rattle.stepper.proofs.Machine.tick.Statement.{statement}
 use Rattle.stepper.proofs.Machine.tick.Tie as tie
 
 join-requires : tie.Need-join-requires
-join-requires c κs = 
+join-requires c κs =
     let s = c .before in
     let a = s .args in
     (s .pre .given .few, ready-waits (a .partitions) (a .deadlines) (a .tasks) (now (a .lengths)) (now (a .next)) (a .self) (a .releases) (s .pre))
 
 choose-requires : tie.Need-choose-requires
-choose-requires c κs = 
+choose-requires c κs =
     let s = c .before .before in
     (s .pre .given .few, s .pre .given .homes)
 
@@ -19,7 +19,7 @@ starting-requires : tie.Need-starting-requires
 starting-requires c κs = search needs
 
 serve-requires : tie.Need-serve-requires
-serve-requires c κs = 
+serve-requires c κs =
     let s = c .before .before .before .before .before in
     let a = s .args in
     let j = c .before .before .before .join in
@@ -27,7 +27,7 @@ serve-requires c κs =
     (ready-sized (a .partitions) (a .deadlines) (a .tasks) (now (a .lengths)) (now (a .next)) (a .self) (a .releases) (s .pre) (j .result) (h .result) (c .starting .result) (j .ensures) (h .ensures) (c .starting .ensures), ready-starts (a .partitions) (a .deadlines) (a .tasks) (now (a .lengths)) (now (a .next)) (a .self) (a .releases) (s .pre) (j .result) (h .result) (c .starting .result) (j .ensures) (h .ensures) (c .starting .ensures))
 
 leave-requires : tie.Need-leave-requires
-leave-requires c κs = 
+leave-requires c κs =
     let s = c .before .before .before .before .before .before in
     let a = s .args in
     let j = c .before .before .before .before .join in
