@@ -1,1 +1,3 @@
 pub mod Chain
+pub mod Says
+pub mod Claims

@@ -21,7 +21,7 @@ use Rattle.script.specs.Script.{releaseAt, spareAt, recordsIn, scriptOf,
 use Rattle.script.specs.Accepted.{Accepted, RulesOfScripts}
 use Rattle.script.proofs.Records.{script-length, script-record, Far, far-earliest, earliest-far}
 
-both-true : (a b : Bool) → (a && b) ≡ true → (a ≡ true) × (b ≡ true)
+pub both-true : (a b : Bool) → (a && b) ≡ true → (a ≡ true) × (b ≡ true)
 both-true true b e = (refl, e)
 both-true false b e = absurd (subst T (sym e) tt)
 

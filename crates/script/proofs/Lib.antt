@@ -1,3 +1,4 @@
 pub mod Records
 pub mod Rules
 pub mod Accepted
+pub mod Meaning
