@@ -21,7 +21,7 @@ use Rattle.machine.specs.Box.{partitionOf}
 use Rattle.script.specs.Script.{recordsIn, scriptOf}
 use Rattle.script.specs.Meaning.{ScriptSays}
 use Rattle.script.specs.Accepted.{Accepted}
-use Rattle.finish.specs.Finish.{recordsOf}
+use Rattle.machine.specs.Box.{recordsOf}
 use Rattle.finish.specs.Claims.{FinishesAt}
 use Rattle.run.specs.Run.{runRules, runAnswer, Ran}
 
