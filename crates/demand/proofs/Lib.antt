@@ -7,6 +7,5 @@ pub mod Largest
 pub mod Meaning
 pub mod Sound
 pub mod Packed
-pub mod Points
 pub mod Membership
 pub mod Within
