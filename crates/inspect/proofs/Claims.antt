@@ -18,7 +18,7 @@ use Rattle.demand.proofs.Meaning.{every-verdict-means}
 use Rattle.inspect.specs.Kinds.{Order, Build, Answer, Done, Refused, Refusal, Passes}
 use Rattle.inspect.specs.Rules.{partitionsOf, buildLayoutRules, partitionRules, widthRules, rankRules, testRules, verdictRules, recordRules, buildRules, checkRules, checkAnswer}
 use Rattle.inspect.specs.Meaning.{CheckSays}
-use Rattle.inspect.specs.Claims.{OrderRight, LayoutRight, RecordsRight, EveryRule, DoneExactly, RefusedExactly, OneAnswer, OnlyAnswer, CountsNothing, Accepted, DoneAccepts, AcceptedDone}
+use Rattle.inspect.specs.Claims.{OrderRight, LayoutRight, RecordsRight, EveryRule, DoneExactly, RefusedExactly, OneAnswer, OnlyAnswer, CheckingUnique, CountsNothing, Accepted, DoneAccepts, AcceptedDone}
 use Rattle.inspect.proofs.Turn.{check-in-turn}
 use Rattle.inspect.proofs.Verdicts.{passing-worst, worst-passing, passing-starts, worst-one}
 
@@ -141,6 +141,9 @@ refused-exactly order build refusal =
 
 pub only-answer : OnlyAnswer
 only-answer order build one other a b = one-answer order build one .1 a ∙ sym (one-answer order build other .1 b)
+
+pub checking-unique : CheckingUnique
+checking-unique order build one other a b = a ∙ sym b
 
 pub counts-nothing : CountsNothing
 unfolding countOf RightAnswer

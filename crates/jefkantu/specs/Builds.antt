@@ -18,11 +18,3 @@ pub record PlansBuild (order output : List ℕ) (word : ℕ) (after : List ℕ) 
 -- what jefkantu_check promises
 abbrev pub ChecksBuild : (order build : List ℕ) (word : ℕ) → Type 0
 ChecksBuild order build word = word ≡ answerWord (checkAnswer order build)
-
--- "the statement leaves one possible number, place, count and content of the caller's memory"
-unfoldable pub PlanUnique : Type 0
-PlanUnique = (order output : List ℕ) (word other : ℕ) (after others : List ℕ) → PlansBuild order output word after → PlansBuild order output other others →
-    (word ≡ other) × (after ≡ others)
-
-unfoldable pub CheckUnique : Type 0
-CheckUnique = (order build : List ℕ) (word other : ℕ) → ChecksBuild order build word → ChecksBuild order build other → word ≡ other

@@ -79,9 +79,10 @@ abbrev pub OneAnswer : Type 0
 OneAnswer = (order build script : List ℕ) (places : ℕ) (answer : Answer) →
     (answer ≡ runAnswer order build script places) ↔ RightAnswer (RunSays order build script places) (recordsIn script) (causes (runRules order build script places)) answer
 
--- ".. and content of the caller's memory"
-abbrev pub OneOutcome : Type 0
-OneOutcome = (order build script out : List ℕ) (one other : Answer) (after after′ : List ℕ) → Ran order build script out one after → Ran order build script out other after′ → (one ≡ other) × (after ≡ after′)
+-- one possible answer and content for every input
+abbrev pub RunningUnique : Type 0
+RunningUnique = (order build script out : List ℕ) (one other : Answer) (after after′ : List ℕ)
+    → Ran order build script out one after → Ran order build script out other after′ → (one ≡ other) × (after ≡ after′)
 
 -- "On refusal the output is unchanged; on success only the counted front changes."
 abbrev pub OnlyFront : Type 0

@@ -24,7 +24,7 @@ use Rattle.script.specs.Meaning.{WholeRecords, AfterPrevious, FarEnough,
 use Rattle.script.specs.Accepted.{ScriptRefusedExactly}
 use Rattle.script.proofs.Accepted.{both-true, before-true, true-before}
 
-whole-tells : (s : List ℕ) → (lengthRight s ≡ true) ↔ WholeRecords s
+pub whole-tells : (s : List ℕ) → (lengthRight s ≡ true) ↔ WholeRecords s
 unfolding recordsIn
 whole-tells s = (forth, back)
   where
