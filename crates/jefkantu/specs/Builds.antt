@@ -6,7 +6,8 @@ use lib.ListN.{length}
 use Rattle.model.specs.Answer.{outputAfter}
 use Rattle.order.specs.Order.{orderAt}
 use Rattle.build.specs.Build.{buildBytes}
-use Rattle.plan.specs.Plan.{fittedOf, planAnswer}
+use Rattle.fit.specs.Recorded.{fittedOf}
+use Rattle.plan.specs.Plan.{planAnswer}
 use Rattle.inspect.specs.Rules.{checkAnswer}
 use Rattle.jefkantu.specs.Word.{answerWord}
 
