@@ -16,7 +16,8 @@ use Rattle.order.specs.Order.{orderAt, readOrder}
 use Rattle.order.proofs.Reading.{read-answer, read-rules, read-order}
 use Rattle.build.specs.Build.{buildBytes}
 use Rattle.fit.specs.declared.state.Fitted.{Fitted}
-use Rattle.plan.specs.Plan.{fittedOf, sizeOf, fittedRules, Plans}
+use Rattle.plan.specs.Plan.{sizeOf, fittedRules, Plans}
+use Rattle.fit.specs.Recorded.{fittedOf}
 use Rattle.plan.proofs.Rules.{fit-stop, fit-on, plan-order, plan-fitted}
 use Rattle.points.specs.Points.{AnswerIs, PlanGives, Accepted, OrderRefused}
 
