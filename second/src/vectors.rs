@@ -103,11 +103,11 @@ impl Choice {
 
     /// Whether no case is wanted any more; no input brings about 28.
     pub fn is_complete(&self) -> bool {
-        let mut lacking = self.operations.iter().flat_map(|&operation| {
+        let mut answers = self.operations.iter().flat_map(|&operation| {
             let numbers = (0..=46).filter(move |&number| operation.can_answer(number));
             numbers.map(move |number| (operation, number))
         });
-        lacking.all(|(operation, number)| {
+        answers.all(|(operation, number)| {
             let lacks = |kind: Kind| self.lacks(kind, operation, number);
             number == 28 || !Kind::ALL.into_iter().any(lacks)
         })
