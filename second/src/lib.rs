@@ -18,6 +18,7 @@ pub mod program;
 pub mod response;
 pub mod script;
 pub mod tally;
+pub mod vectors;
 
 use answer::{Answer, Cause, Refusal};
 use count::Count;
