@@ -4,9 +4,9 @@
 
 use second::answer::Answer;
 use second::generate::random::Random;
-use second::generate::{papers, scripts, Scale};
+use second::generate::{papers, scripts, slow, Scale};
 use second::library::{jefkantu_check, jefkantu_plan, jefkantu_run};
-use second::order::{Order, Task};
+use second::order::Order;
 use second::script;
 use std::hint::black_box;
 use std::process::exit;
@@ -135,23 +135,6 @@ fn rows(name: &str, cases: &[Case], runs: u32) -> bool {
     fast
 }
 
-/// The orders of slow.txt: terms, M and the tasks as m,T,D,C.
-fn slow_orders() -> Vec<Order> {
-    let lines = include_str!("../../slow.txt").lines().filter(|line| !line.starts_with('#'));
-    let order = |line: &str| {
-        let mut words = line.split(' ').skip(1);
-        let number = |word: &str| word.parse().expect("a number");
-        let processors = words.next().map_or(0, number);
-        let task = |word: &str| {
-            let mut numbers = word.split(',').map(number);
-            let [m, t, d, c] = [(); 4].map(|()| numbers.next().unwrap_or(0));
-            Task { m, t, d, c }
-        };
-        Order { processors, tasks: words.map(task).collect() }
-    };
-    lines.map(order).collect()
-}
-
 fn main() {
     let runs = std::env::args().nth(1).map_or(7, |runs| runs.parse().expect("a number of runs"));
     let mut random = Random::new(1);
@@ -167,7 +150,7 @@ fn main() {
             .collect();
         fast &= rows(name, &cases, runs);
     }
-    for (place, order) in slow_orders().iter().enumerate() {
+    for (place, order) in slow::known().iter().enumerate() {
         fast &= rows(&format!("slow {}", place + 1), &[Case::new(&mut random, order)], runs);
     }
     if !fast {

@@ -1,6 +1,7 @@
 //! Looks for orders that are slow to plan or to check, by hill climbing over their numbers.
 //!
-//! `climb [plan|check] [SEED] [SECONDS]` prints the worst order of each climb, in the form of slow.txt.
+//! `climb [plan|check] [SEED] [SECONDS]` climbs from the orders of slow.txt, then from random ones, and
+//! prints the worst order of each climb in that file's form.
 
 use second::build::{Build, Partition, Seat};
 use second::generate::random::Random;
@@ -12,6 +13,9 @@ use std::time::{Duration, Instant};
 
 /// A climb ends after so many changes in a row that did not help.
 const PATIENCE: u32 = 500;
+
+/// Counts the demand terms of an order.
+type Terms = fn(&Order) -> u64;
 
 fn plan_terms(order: &Order) -> u64 {
     plan_counting(&order.bytes(), &mut [0; 195]).1
@@ -35,7 +39,7 @@ fn check_terms(order: &Order) -> u64 {
 }
 
 /// The worst order reached from a seed before the end.
-fn climb(random: &mut Random, terms: fn(&Order) -> u64, end: Instant) -> (u64, Order) {
+fn climb(random: &mut Random, terms: Terms, end: Instant) -> (u64, Order) {
     let mut seeds = (0..40).map(|_| slow::seed(random));
     let first = seeds.next().expect("40 seeds");
     let mut top = seeds.fold((terms(&first), first), |best, order| {
@@ -65,16 +69,18 @@ fn line(terms: u64, order: &Order) -> String {
 
 fn main() {
     let mut arguments = std::env::args().skip(1);
-    let terms = match arguments.next().as_deref() {
+    let terms: Terms = match arguments.next().as_deref() {
         Some("check") => check_terms,
         _ => plan_terms,
     };
     let mut number = |default| arguments.next().map_or(default, |n| n.parse().expect("a number"));
-    let (seed, seconds) = (number(1), number(60));
+    let (first_seed, seconds) = (number(1), number(60));
     let end = Instant::now() + Duration::from_secs(seconds);
-    let mut random = Random::new(seed);
+    let mut random = Random::new(first_seed);
+    let mut known = slow::known().into_iter();
     while Instant::now() < end {
-        let (found, order) = climb(&mut random, terms, end);
+        let from = known.next().unwrap_or_else(|| seed(&mut random, terms));
+        let (found, order) = climb(&mut random, from, terms, end);
         println!("{}", line(found, &order));
     }
 }

@@ -6,8 +6,11 @@ use crate::order::{Order, Task};
 /// Ticks in a millisecond.
 const MILLISECOND: u32 = 100;
 
-/// The families by name.
-pub const FAMILIES: [(&str, fn(&mut Random) -> Order); 7] = [
+/// Orders drawn alike, and their name.
+pub type Family = (&'static str, fn(&mut Random) -> Order);
+
+/// All of them.
+pub const FAMILIES: [Family; 7] = [
     ("001, M = 8, n = 8", |random| vision(random, 8)),
     ("001, M = 8, n = 16", |random| vision(random, 16)),
     ("003, M = 8, n = 8", |random| synthetic(random, 8, 8)),

@@ -9,6 +9,23 @@ fn task(t: u32, d: u32, c: u32) -> Task {
     Task { m: 1, t, d: d.clamp(c, t), c }
 }
 
+/// The orders of slow.txt, the slowest that were found: terms, M and the tasks as m,T,D,C.
+pub fn known() -> Vec<Order> {
+    let lines = include_str!("../../slow.txt").lines().filter(|line| !line.starts_with('#'));
+    let order = |line: &str| {
+        let mut words = line.split(' ').skip(1);
+        let number = |word: &str| word.parse().expect("a number");
+        let processors = words.next().map_or(0, number);
+        let task = |word: &str| {
+            let mut numbers = word.split(',').map(number);
+            let [m, t, d, c] = [(); 4].map(|()| numbers.next().unwrap_or(0));
+            Task { m, t, d, c }
+        };
+        Order { processors, tasks: words.map(task).collect() }
+    };
+    lines.map(order).collect()
+}
+
 /// A first order of one of several kinds; most have utilisation just under 1.
 pub fn seed(random: &mut Random) -> Order {
     let n = match random.below(3) {
@@ -34,7 +51,7 @@ pub fn seed(random: &mut Random) -> Order {
 
 /// 1/2 + 1/3 + 1/7 + 1/43, at some scale, and a fifth that about fills the rest.
 fn chain(random: &mut Random) -> Vec<Task> {
-    let scale = random.spread(1, 40);
+    let scale = if random.one_in(2) { 1 } else { random.spread(1, 40) };
     let last = random.between(1_807, 2_200);
     [2, 3, 7, 43, last].map(|t| task(t * scale, t * scale, scale)).to_vec()
 }
