@@ -38,18 +38,15 @@ fn check_terms(order: &Order) -> u64 {
     check_counting(&order.bytes(), &build.bytes()).1
 }
 
-/// The worst order reached from a seed before the end.
-fn climb(random: &mut Random, terms: Terms, end: Instant) -> (u64, Order) {
-    let mut seeds = (0..40).map(|_| slow::seed(random));
-    let first = seeds.next().expect("40 seeds");
-    let mut top = seeds.fold((terms(&first), first), |best, order| {
-        let found = terms(&order);
-        if found > best.0 {
-            (found, order)
-        } else {
-            best
-        }
-    });
+/// The worst of some random orders.
+fn seed(random: &mut Random, terms: Terms) -> Order {
+    let seeds = (0..40).map(|_| slow::seed(random));
+    seeds.max_by_key(terms).expect("40 seeds")
+}
+
+/// The worst order reached from one before the end.
+fn climb(random: &mut Random, from: Order, terms: Terms, end: Instant) -> (u64, Order) {
+    let mut top = (terms(&from), from);
     let mut idle = 0;
     while idle < PATIENCE && Instant::now() < end {
         let order = slow::changed(random, &top.1);
