@@ -12,13 +12,25 @@ use Rattle.verdict.proofs.jobs.in_time.Statement.{statement}
 use Rattle.verdict.proofs.jobs.in_time.Tie as tie
 
 grows : (s : tie.Start) → let a = s .args in Grows (packedWork (a .periods .now) (a .costs .now) (a .count))
-grows s = let a = s .args in packed-grows (a .periods .now) (a .costs .now) (a .count) (s .pre .0 .period-least)
+grows s = let a = s .args in packed-grows (a .periods .now) (a .costs .now) (a .count) (s .pre .0 .fits .period-least)
+
+overfull-requires : tie.Need-overfull-requires
+overfull-requires c κs = let s = c in
+    let a = s .args in
+    let r = s .pre .1 in
+    (s .pre .0, period-least (packedWork (a .periods .now) (a .costs .now) (a .count)) (grows s) (a .blocking) (a .period) (a .cost) (a .deadline) r, omega (arith, r .cost-most, r .deadline-most, r .period-most))
+
+returns : tie.Need-returns
+returns c = let s = c .before .before in
+    let a = s .args in
+    let r = s .pre .1 in
+    sym (ap doesPass (over-none (packedWork (a .periods .now) (a .costs .now) (a .count)) (grows s) (a .blocking) (a .period) (a .cost) (a .deadline) r (c .before .overfull .ensures (c .if1 .taken))))
 
 sub-limit : tie.Need-sub-limit
-sub-limit c = omega (arith, c .pre .1 .cost-most)
+sub-limit c = omega (arith, c .before .before .pre .1 .cost-most)
 
 start-from-requires : tie.Need-start-from-requires
-start-from-requires c κs = let s = c in
+start-from-requires c κs = let s = c .before .before in
     let a = s .args in
     let r = s .pre .1 in
     (s .pre .0, omega (arith, r .blocking-most), omega (arith, r .deadline-most, r .period-most), λ x l. absurd (omega arith))
@@ -29,37 +41,25 @@ enum-known-first c = search needs
 enum-told : tie.Need-enum-told
 enum-told c = search needs
 
-returns : tie.Need-returns
-returns c = let s = c .before .before .before in
+returns-2 : tie.Need-returns-2
+returns-2 c = let s = c .before .before .before .before .before in
     let a = s .args in
     let r = s .pre .1 in
     sym (not-in-time (packedWork (a .periods .now) (a .costs .now) (a .count)) (grows s) (a .blocking) (a .period) (a .cost) (a .deadline) r (sym (c .before .before .start-from .ensures) ∙ c .enum-told .given .1))
 
 -- the first start
-began : (c : tie.After-known-told) → let a = c .before .before .before .before .args in startWithin (packedWork (a .periods .now) (a .costs .now) (a .count)) (a .blocking) (a .deadline - a .cost) ≡ At (c .before .first .given .0 .0)
+began : (c : tie.After-known-told) → let a = c .before .before .before .before .before .before .args in startWithin (packedWork (a .periods .now) (a .costs .now) (a .count)) (a .blocking) (a .deadline - a .cost) ≡ At (c .before .first .given .0 .0)
 began c = sym (c .before .before .before .start-from .ensures) ∙ c .before .first .given .1
 
 -- it is in time
-due : (c : tie.After-known-told) → let a = c .before .before .before .before .args in c .before .first .given .0 .0 ≤ a .deadline - a .cost
-due c = let a = c .before .before .before .before .args in within-at (packedWork (a .periods .now) (a .costs .now) (a .count)) (a .blocking) (a .deadline - a .cost) (c .before .first .given .0 .0) (began c) .upto
-
-overfull-requires : tie.Need-overfull-requires
-overfull-requires c κs = let s = c .before .before .before .before in
-    let a = s .args in
-    let r = s .pre .1 in
-    (s .pre .0, period-least (packedWork (a .periods .now) (a .costs .now) (a .count)) (grows s) (a .blocking) (a .period) (a .cost) (a .deadline) r, omega (arith, r .cost-most, r .deadline-most, r .period-most))
-
-returns-2 : tie.Need-returns-2
-returns-2 c = let s = c .before .before .before .before .before .before in
-    let a = s .args in
-    let r = s .pre .1 in
-    sym (ap doesPass (over-none (packedWork (a .periods .now) (a .costs .now) (a .count)) (grows s) (a .blocking) (a .period) (a .cost) (a .deadline) r (c .before .overfull .ensures (c .if1 .taken))))
+due : (c : tie.After-known-told) → let a = c .before .before .before .before .before .before .args in c .before .first .given .0 .0 ≤ a .deadline - a .cost
+due c = let a = c .before .before .before .before .before .before .args in within-at (packedWork (a .periods .now) (a .costs .now) (a .count)) (a .blocking) (a .deadline - a .cost) (c .before .first .given .0 .0) (began c) .upto
 
 add-end : tie.Need-add-end
 add-end c = let s = c .before .before .before .before .before .before in
     let a = s .args in
     let r = s .pre .1 in
-    omega (arith, due (c .before .before), r .cost-most, r .deadline-most, r .period-most)
+    omega (arith, due c, r .cost-most, r .deadline-most, r .period-most)
 
 window-from-requires : tie.Need-window-from-requires
 window-from-requires c κs = let s = c .before .before .before .before .before .before in
@@ -70,7 +70,7 @@ window-from-requires c κs = let s = c .before .before .before .before .before .
       period-least (packedWork (a .periods .now) (a .costs .now) (a .count)) (grows s) (a .blocking) (a .period) (a .cost) (a .deadline) r,
       omega (arith, r .cost-most, r .deadline-most, r .period-most),
       omega (arith, r .cost-least),
-      after-first (packedWork (a .periods .now) (a .costs .now) (a .count)) (grows s) (a .blocking) (a .period) (a .cost) (a .deadline) r (a .deadline - a .cost) (c .before .before .before .first .given .0 .0) (began (c .before .before)),
+      after-first (packedWork (a .periods .now) (a .costs .now) (a .count)) (grows s) (a .blocking) (a .period) (a .cost) (a .deadline) r (a .deadline - a .cost) (c .before .first .given .0 .0) (began c),
     )
 
 enum-known-length : tie.Need-enum-known-length
@@ -89,7 +89,7 @@ later-jobs-requires : tie.Need-later-jobs-requires
 later-jobs-requires c κs = let s = c .before .before .before .before .before .before .before .before .before .before in
     let a = s .args in
     let r = s .pre .1 in
-    let k = c .before .before .before .before .before .before in
+    let k = c .before .before .before .before in
     let w = k .before .first .given .0 .0 in
     let d = due k in (
       s .pre .0,
@@ -111,12 +111,12 @@ pub in-time-spec : {M : Type 1} → statement M
 in-time-spec =
     tie.close
     (tie.spec
+    overfull-requires
+    returns
     sub-limit
     start-from-requires
     enum-known-first
     enum-told
-    returns
-    overfull-requires
     returns-2
     add-end
     window-from-requires

@@ -12,7 +12,7 @@ use Rattle.verdict.proofs.jobs.judge.Statement.{statement}
 use Rattle.verdict.proofs.jobs.judge.Tie as tie
 
 grows : (s : tie.Start) → let a = s .args in Grows (packedWork (a .periods .now) (a .costs .now) (a .count))
-grows s = let a = s .args in packed-grows (a .periods .now) (a .costs .now) (a .count) (s .pre .0 .period-least)
+grows s = let a = s .args in packed-grows (a .periods .now) (a .costs .now) (a .count) (s .pre .0 .fits .period-least)
 
 overfull-requires : tie.Need-overfull-requires
 overfull-requires c κs = let s = c in
