@@ -44,15 +44,17 @@ impl Member {
     }
 
     /// Window L, not before `least`: the smallest t with B + Σ ceil(t/T)·C ≤ t over this and higher
-    /// members; by its last tick, as ceil(t/T) = floor((t−1)/T) + 1.
+    /// members.
     pub fn window(&self, least: u64, count: &mut impl Count) -> Option<u64> {
-        let last_ticks = least - 1..=HORIZON - 1;
-        smallest(&self.loads, self.blocking, 1, last_ticks, count).map(|last| last + 1)
+        smallest(&self.loads, self.blocking, least..=HORIZON, count)
     }
 
-    /// Start w_q in a range: the smallest w with B + q·C + Σ (floor(w/T)+1)·C ≤ w.
+    /// Start w_q in a range: the smallest w with B + q·C + Σ (floor(w/T)+1)·C ≤ w over higher members.
+    ///
+    /// As floor(w/T) + 1 = ceil((w+1)/T), that is a search for w + 1 with one more asked.
     pub fn start(&self, q: u64, ticks: RangeInclusive<u64>, count: &mut impl Count) -> Option<u64> {
-        smallest(self.higher(), self.blocking + q * self.c, 0, ticks, count)
+        let base = self.blocking + q * self.c + 1;
+        smallest(self.higher(), base, ticks.start() + 1..=ticks.end() + 1, count).map(|t| t - 1)
     }
 
     /// The worst response if the member passes, else the cause why not.

@@ -1,4 +1,4 @@
-//! The search for the smallest tick that is enough for what some members ask.
+//! The search for the smallest time that is enough for what some members ask in it.
 
 use crate::count::Count;
 use crate::order::Task;
@@ -22,43 +22,42 @@ impl From<&Task> for Load {
     }
 }
 
-/// The smallest tick of a range with base + Σ (floor(tick/T)+1)·C ≤ tick + ahead.
+/// The smallest t of a range of at least 1 with base + Σ ceil(t/T)·C ≤ t.
 ///
-/// Where more is asked, no tick before what is asked can do either, so the search jumps there, or to
-/// a line below the demand where that is further: members with T up to `reach` ask at least their
-/// share of every tick, the others at least what they ask by now. Any reach is right; twice the last
+/// Where more is asked, no t before what is asked can do either, so the search jumps there, or to a
+/// line below the demand where that is further: members with T up to `reach` ask at least their share
+/// of every tick, the others at least what they ask by now. Any reach is right; a few times the last
 /// jump does well.
 pub fn smallest(
     loads: &[Load],
     base: u64,
-    ahead: u64,
-    ticks: RangeInclusive<u64>,
+    range: RangeInclusive<u64>,
     count: &mut impl Count,
 ) -> Option<u64> {
-    let (mut tick, most) = ticks.into_inner();
+    let (mut t, most) = range.into_inner();
     let mut reach = 2;
-    while tick <= most {
+    while t <= most {
         count.terms(loads.len());
         let (mut all, mut rest, mut slope) = (base, base, 0);
         for load in loads {
-            let work = (tick / load.t + 1) * load.c;
+            let work = t.div_ceil(load.t) * load.c;
             all += work;
             match load.t <= reach {
                 true => slope += load.share,
                 false => rest += work,
             }
         }
-        if all <= tick + ahead {
-            return Some(tick);
+        if all <= t {
+            return Some(t);
         }
-        let on = all.max(line(rest, slope)) - ahead;
-        reach = 2 * (on - tick);
-        tick = on;
+        let on = all.max(line(rest, slope));
+        reach = 4 * (on - t);
+        t = on;
     }
     None
 }
 
-/// A tick before which a processor that loses `slope` of every tick has not done the rest.
+/// A time before which a processor that loses `slope` of every tick has not done the rest.
 fn line(rest: u64, slope: u64) -> u64 {
     match slope < WHOLE && rest <= 4_000_000 {
         true => rest * WHOLE / (WHOLE - slope),
@@ -82,12 +81,12 @@ mod tests {
             };
             let loads = [load(), load(), load()];
             let loads = &loads[..random.between(1, 3) as usize];
-            let (base, ahead) = (random.below(40).into(), random.below(2).into());
-            let demand = |tick: u64| loads.iter().map(|k| (tick / k.t + 1) * k.c).sum::<u64>();
-            let least: u64 = random.below(3).into();
-            let ticks = least..=least + u64::from(random.below(400));
-            let literal = ticks.clone().find(|&tick| base + demand(tick) <= tick + ahead);
-            assert_eq!(smallest(loads, base, ahead, ticks, &mut ()), literal, "{loads:?}");
+            let base = random.below(40).into();
+            let demand = |t: u64| loads.iter().map(|k| t.div_ceil(k.t) * k.c).sum::<u64>();
+            let least: u64 = random.between(1, 3).into();
+            let range = least..=least + u64::from(random.below(400));
+            let literal = range.clone().find(|&t| base + demand(t) <= t);
+            assert_eq!(smallest(loads, base, range, &mut ()), literal, "{loads:?}");
         }
     }
 }
