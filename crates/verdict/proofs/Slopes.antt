@@ -105,14 +105,15 @@ module _ (f : ℕ → ℕ) (lo : ℕ) (mono : (a b : ℕ) → lo ≤ a → a ≤
       ]
 
 module _ (work : ℕ → ℕ) (grows : Grows work) where
+  -- a start at s takes one more of s + 1 ticks than the work
   pub start-on :
-      (base w all rest slope end : ℕ) → Below work w all rest slope → Unmet (base + rest) slope end → Under (startOver work base) 0 w →
-      Under (startOver work base) 0 (max (base + all) end)
+      (base w all rest slope end : ℕ) → Below work w all rest slope → Unmet (base + rest + 1) slope end → Under (startOver work base) 0 w →
+      Under (startOver work base) 0 (max (base + all + 1) end - 1)
   unfolding startOver
   start-on base w all rest slope end b unmet under =
-      subst (λ (x : ℕ). Under (startOver work base) 0 (max (base + x) end)) (sym (b .by))
-      (farther (startOver work base) 0 (λ x y from le. start-grows work grows base x y le) w end (omega arith)
-      (λ s le l. omega (arith, unmet s l, b .later s le, add-mul s 1 slope, one-mul slope)) under)
+      subst (λ (x : ℕ). Under (startOver work base) 0 x) (omega (arith, b .by))
+      (farther (startOver work base) 0 (λ x y from le. start-grows work grows base x y le) w (end - 1) (omega arith)
+      (λ s le l. omega (arith, unmet (s + 1) (omega arith), b .later s le)) under)
 
   -- the window's demand, by its last tick
   module _ (B T C : ℕ) (pos : 1 ≤ T) where

@@ -28,9 +28,11 @@ pub fn start_from(
         if total <= w {
             return Found::At(w);
         }
-        let on = demand::larger(total, lines::line(base + asked.rest, asked.slope));
+        // Of w + 1 ticks a start at w asks one more than the work, so the line may too.
+        let line = lines::line(base + asked.rest + 1, asked.slope);
+        let on = demand::larger(total + 1, line) - 1;
         // Members much shorter than a jump are near their share.
-        reach = 2 * (on - w);
+        reach = 4 * (on - w);
         w = on;
     }
     Found::Nothing

@@ -93,7 +93,7 @@ pub fn window_from(
             return Found::At(t);
         }
         let on = demand::larger(total, lines::line(blocking + asked.rest, asked.slope));
-        reach = 2 * (on - t);
+        reach = 4 * (on - t);
         t = on;
     }
     Found::Nothing

@@ -46,11 +46,20 @@ returns c = let k = c .before .before in
 add-line : tie.Need-add-line Inv-loop μ-loop
 add-line c = let k = c .before .before .before in omega (arith, small k .rest-most, k .before .before .before .pre .0 .fits .few)
 
+add-line-2 : tie.Need-add-line-2 Inv-loop μ-loop
+add-line-2 c = let k = c .before .before .before in omega (arith, small k .rest-most, k .before .before .before .pre .0 .fits .few)
+
 line-requires : tie.Need-line-requires Inv-loop μ-loop
 line-requires c κs = let k = c .before .before .before in omega (arith, small k .rest-most, k .before .before .before .pre .0 .fits .few)
 
+add-larger : tie.Need-add-larger Inv-loop μ-loop
+add-larger c = let k = c .before .before .before .before in omega (arith, small k .all-most, k .before .before .before .pre .0 .fits .few)
+
 larger-requires : tie.Need-larger-requires Inv-loop μ-loop
 larger-requires c κs = search needs
+
+sub-on : tie.Need-sub-on Inv-loop μ-loop
+sub-on c = omega (arith, c .larger .ensures)
 
 sub-reach : tie.Need-sub-reach Inv-loop μ-loop
 sub-reach c = omega (arith, c .larger .ensures, c .before .before .before .if1 .left)
@@ -88,8 +97,11 @@ start-from-spec =
     add-total
     returns
     add-line
+    add-line-2
     line-requires
+    add-larger
     larger-requires
+    sub-on
     sub-reach
     mul-reach
     loop-less
