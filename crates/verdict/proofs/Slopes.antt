@@ -44,12 +44,12 @@ module _ (T C w : ℕ) (pos : 1 ≤ T) where
   below-long = record { by = refl; later = λ s l. omega (arith, mul-zero (s + 1), mul-le-mul-right C (by-mono T pos l)) }
 
 -- lines add up
-module _ (f g h : ℕ → ℕ) (whole-is : (s : ℕ) → h s ≡ f s + g s) (w : ℕ) where
+module _ (f g h : ℕ → ℕ) (is-sum : (s : ℕ) → h s ≡ f s + g s) (w : ℕ) where
   pub below-both : (a b p r m n : ℕ) → Below f w a p m → Below g w b r n → Below h w (a + b) (p + r) (m + n)
   below-both a b p r m n x y =
       record {
-        by = omega (arith, x .by, y .by, whole-is w);
-        later = λ s l. omega (arith, x .later s l, y .later s l, whole-is s, mul-add (s + 1) m n);
+        by = omega (arith, x .by, y .by, is-sum w);
+        later = λ s l. omega (arith, x .later s l, y .later s l, is-sum s, mul-add (s + 1) m n);
       }
 
 module _ (periods costs : List ℕ) (w : ℕ) where

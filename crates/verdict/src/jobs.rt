@@ -6,8 +6,9 @@ use model::Order;
 use model::Task;
 use search::Found;
 ghost use mathlib.Core.Path.{_≡_};
-ghost use Rattle.demand.specs.Test.{doesPass};
-ghost use Rattle.demand.specs.Packed.{Ranges, Opens, packedWork, verdictOver};
+ghost use Rattle.search.specs.declared.Found.the-variants.{At};
+ghost use Rattle.demand.specs.Test.{firstMet, doesPass};
+ghost use Rattle.demand.specs.Packed.{Ranges, Opens, packedWork, startOver, verdictOver};
 ghost use Rattle.verdict.specs.Shares.{Shared};
 
 // The verdict in a window of the length, whose first job is in time: until a job is late.
@@ -44,8 +45,8 @@ fn later_jobs(
     Verdict::Passes(most as u32)
 }
 
-// The verdict over packed members. Each search goes on from the one before it.
-pub fn judge(
+// The verdict from the first start on: the window, then its jobs.
+fn from_first(
     periods: &[u64; Order::MOST_TASKS],
     costs: &[u64; Order::MOST_TASKS],
     shares: &[u64; Order::MOST_TASKS],
@@ -54,24 +55,11 @@ pub fn judge(
     period: u64,
     cost: u64,
     deadline: u64,
+    first: u64,
 ) -> Verdict
-    requires { ⌜ Shared (now periods) (now costs) (now shares) count × Ranges blocking period cost deadline ⌝ }
+    requires { ⌜ Shared (now periods) (now costs) (now shares) count × Ranges blocking period cost deadline × (firstMet (startOver (packedWork (now periods) (now costs) count) blocking) 0 ≡ At first) ⌝ }
     ensures { λ r. ⌜ r ≡ verdictOver (packedWork (now (periods .entry)) (now (costs .entry)) count) blocking period cost deadline ⌝ }
 {
-    if windows::overfull(periods, costs, shares, count, blocking, period, cost) {
-        return Verdict::NoWindow;
-    }
-    let Found::At(first) = starts::start_from(
-        periods,
-        costs,
-        shares,
-        count,
-        blocking,
-        0,
-        Task::HORIZON,
-    ) else {
-        return Verdict::NoWindow;
-    };
     let end = first + cost;
     let Found::At(length) = windows::window_from(
         periods,
@@ -102,6 +90,41 @@ pub fn judge(
     )
 }
 
+// The verdict over packed members. Each search goes on from the one before it.
+pub fn judge(
+    periods: &[u64; Order::MOST_TASKS],
+    costs: &[u64; Order::MOST_TASKS],
+    shares: &[u64; Order::MOST_TASKS],
+    count: usize,
+    blocking: u64,
+    period: u64,
+    cost: u64,
+    deadline: u64,
+) -> Verdict
+    requires { ⌜ Shared (now periods) (now costs) (now shares) count × Ranges blocking period cost deadline ⌝ }
+    ensures { λ r. ⌜ r ≡ verdictOver (packedWork (now (periods .entry)) (now (costs .entry)) count) blocking period cost deadline ⌝ }
+{
+    if windows::overfull(periods, costs, shares, count, blocking, period, cost) {
+        return Verdict::NoWindow;
+    }
+    let limit = Task::HORIZON;
+    let Found::At(first) = starts::start_from(periods, costs, shares, count, blocking, 0, limit)
+    else {
+        return Verdict::NoWindow;
+    };
+    from_first(
+        periods,
+        costs,
+        shares,
+        count,
+        blocking,
+        period,
+        cost,
+        deadline,
+        first,
+    )
+}
+
 fn is_passing(verdict: Verdict) -> bool
     ensures { λ r. ⌜ r ≡ doesPass verdict ⌝ }
 {
@@ -113,7 +136,7 @@ fn is_passing(verdict: Verdict) -> bool
     }
 }
 
-// Whether the verdict is to pass: the shares first, since above the whole every search is long, then the first job against its deadline.
+// Whether the verdict is to pass: where the shares are too many every search is long, and the first job is soon late.
 pub fn in_time(
     periods: &[u64; Order::MOST_TASKS],
     costs: &[u64; Order::MOST_TASKS],
@@ -135,20 +158,7 @@ pub fn in_time(
     else {
         return false;
     };
-    let end = first + cost;
-    let Found::At(length) = windows::window_from(
-        periods,
-        costs,
-        shares,
-        count,
-        blocking,
-        period,
-        cost,
-        end,
-    ) else {
-        return false;
-    };
-    is_passing(later_jobs(
+    is_passing(from_first(
         periods,
         costs,
         shares,
@@ -157,7 +167,6 @@ pub fn in_time(
         period,
         cost,
         deadline,
-        length,
         first,
     ))
 }

@@ -1,8 +1,3 @@
-use native.Mathlib.Omega.{arith}
-use mathlib.Core.Path.{_≡_, sym, subst}
-use Prim.Native.Nat.{ℕ, _*_}
-use Rattle.demand.specs.Releases.{releasesBy}
-use Rattle.verdict.specs.Lines.{Below}
 use Rattle.verdict.proofs.Slopes.{below-short, below-long}
 use borrow.Author.Needs.{needs}
 use Rattle.verdict.proofs.lines.asked_of.Statement.{statement}

@@ -1,6 +1,6 @@
 use native.Mathlib.Omega.{arith}
 use mathlib.Core.Path.{refl}
-use Prim.Native.Nat.{ℕ, _+_, _*_}
+use Prim.Native.Nat.{_+_, _*_}
 use Rattle.demand.specs.Releases.{releasesBy}
 use Rattle.demand.specs.Packed.{packedWork}
 use Rattle.verdict.specs.Lines.{Below, together}

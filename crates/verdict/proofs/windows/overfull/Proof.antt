@@ -18,7 +18,7 @@ returns c = λ e.
     let s = k .before in
     let a = s .args in
     let r = k .asked-with .result in
-    over (packedWork (a .periods .now) (a .costs .now) (a .count)) (packed-grows (a .periods .now) (a .costs .now) (a .count) (s .pre .0 .fits .period-least)) (a .blocking) (a .period) (a .cost) (s .pre .1) (r .all) (r .rest) (r .slope) (k .asked-with .ensures) (c .if1 .taken))
+    over (packedWork (a .periods .now) (a .costs .now) (a .count)) (packed-grows (a .periods .now) (a .costs .now) (a .count) (s .pre .0 .fits .period-least)) (a .blocking) (a .period) (a .cost) (s .pre .1) (r .all) (r .rest) (r .slope) (k .asked-with .ensures) (omega (arith, c .if1 .taken)))
 
 returns-2 : tie.Need-returns-2
 returns-2 c = λ e.
@@ -26,7 +26,7 @@ returns-2 c = λ e.
     let s = k .before in
     let a = s .args in
     let r = k .asked-with .result in
-    even (packedWork (a .periods .now) (a .costs .now) (a .count)) (packed-grows (a .periods .now) (a .costs .now) (a .count) (s .pre .0 .fits .period-least)) (a .blocking) (a .period) (a .cost) (s .pre .1) (r .all) (r .rest) (r .slope) (k .asked-with .ensures) (c .if2 .taken) (ltb-true _ _ e))
+    even (packedWork (a .periods .now) (a .costs .now) (a .count)) (packed-grows (a .periods .now) (a .costs .now) (a .count) (s .pre .0 .fits .period-least)) (a .blocking) (a .period) (a .cost) (s .pre .1) (r .all) (r .rest) (r .slope) (k .asked-with .ensures) (omega (arith, c .if2 .taken)) (ltb-true _ _ e))
 
 returns-3 : tie.Need-returns-3
 returns-3 c = λ e. (let z : _≡_ {A = ℕ} 0 1 = cc e in absurd (omega arith))
