@@ -4,8 +4,8 @@ use Prim.Native.Nat.{_≤_, _+_, _/_}
 use native.Mathlib.Nat.{div-le-self, mul-le-mul}
 use Rattle.demand.specs.Releases.{releasesBy}
 use borrow.Author.Needs.{needs}
-use Rattle.verdict.proofs.starts.released_work.Statement.{statement}
-use Rattle.verdict.proofs.starts.released_work.Tie as tie
+use Rattle.verdict.proofs.lines.released_work.Statement.{statement}
+use Rattle.verdict.proofs.lines.released_work.Tie as tie
 
 div-result : tie.Need-div-result
 div-result c = search needs
