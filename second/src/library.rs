@@ -10,7 +10,7 @@ macro_rules! surface {
             pub fn $name($($argument: $kind),*) -> u64;
         }
         #[cfg(not(feature = $feature))]
-        #[allow(clippy::too_many_arguments)]
+        #[allow(clippy::missing_safety_doc, clippy::too_many_arguments)]
         pub unsafe fn $name($(_: $kind),*) -> u64 {
             unreachable!("{} is not linked", stringify!($name))
         }
