@@ -9,7 +9,7 @@ use Rattle.events.proofs.run_script.Tie as tie
 
 -- what the run is given
 so-here : (r : tie.After-line-up) → let a = r .before .before .before .before .before .before .before .before .args in
-    Prepared (a .partitions) (r .before .before .deadlines-of .result) (a .order .tasks) (r .before .before .before .before .before .records-in .result) (tickAt (now (a .script))) (lengthAt (now (a .script))) (r .line-up .last .1 .0) (r .line-up .result) (length (now (a .out)))
+    Prepared (a .partitions) (r .before .before .deadlines-of .result) (a .order .tasks) (r .before .before .before .before .before .records-in .result) (tickAt (now (a .script))) (lengthAt (now (a .script))) (r .line-up .last .1 .1 .0) (r .line-up .result) (length (now (a .out)))
 so-here r =
     let s = r .before .before .before .before .before .before .before .before in
     let a = s .args in
