@@ -27,7 +27,7 @@ ahead-first script k h N = record { upto = N .upto; own = N .own; past = λ i x 
 pub ahead-quiet : (script : List Release) (k h t e : ℕ) → t ≤ e → QuietTill script t e → Ahead script k h t → Ahead script k h e
 ahead-quiet script k h t e le quiet A = record { upto = A .upto; own = A .own; past = λ i x y. omega (arith, A .past i x y); future = λ i x y z. quiet i y (A .future i x y z) }
 
-module _ (partitions deadlines : List ℕ) (n records : ℕ) (ticks lengths next first : List ℕ) (places : ℕ) (so : Prepared partitions deadlines n records ticks lengths next first places) where
+module _ (partitions deadlines : List ℕ) (n records : ℕ) (ticks lengths : ℕ → ℕ) (next first : List ℕ) (places : ℕ) (so : Prepared partitions deadlines n records ticks lengths next first places) where
   abbrev script : List Release
   script = so .script
 
@@ -44,9 +44,9 @@ module _ (partitions deadlines : List ℕ) (n records : ℕ) (ticks lengths next
 
   -- a task's release at e
   pub due-so : (k h e : ℕ) → Ahead script k h e → dueOf ticks lengths records h e ≡ patternOf script e k
-  due-so k h e A = go (decLt h records) (ℕ-discrete (at ticks h) e)
+  due-so k h e A = go (decLt h records) (ℕ-discrete (ticks h) e)
     where
-      go : Dec (h < records) → Dec (at ticks h ≡ e) → dueOf ticks lengths records h e ≡ patternOf script e k
+      go : Dec (h < records) → Dec (ticks h ≡ e) → dueOf ticks lengths records h e ≡ patternOf script e k
       go (yes l) (yes d) =
           let here : h < length script = omega (arith, so .count) in
           due-now ticks lengths records h e l d ∙ (so .laid .length-at h here ∙ sym (released-at (so .given .legal) h e k here (sym (so .ticks-at h here) ∙ d) (A .own here)))
@@ -55,9 +55,9 @@ module _ (partitions deadlines : List ℕ) (n records : ℕ) (ticks lengths next
 
   -- a release there is by record h, at that tick
   pub due-some : (h e x : ℕ) → x ≡ dueOf ticks lengths records h e → (x ≡ 0 → ⊥) → (h < length script) × (tickOf script h ≡ e)
-  due-some h e x f ne = go (decLt h records) (ℕ-discrete (at ticks h) e)
+  due-some h e x f ne = go (decLt h records) (ℕ-discrete (ticks h) e)
     where
-      go : Dec (h < records) → Dec (at ticks h ≡ e) → (h < length script) × (tickOf script h ≡ e)
+      go : Dec (h < records) → Dec (ticks h ≡ e) → (h < length script) × (tickOf script h ≡ e)
       go (yes l) (yes d) = let here : h < length script = omega (arith, so .count) in (here, sym (so .ticks-at h here) ∙ d)
       go (yes l) (no d) = absurd (ne (f ∙ due-later ticks lengths records h e l d))
       go (no l) d = absurd (ne (f ∙ due-never ticks lengths records h e (omega arith)))

@@ -28,7 +28,7 @@ use Rattle.events.specs.Prepared.{Prepared}
 use Rattle.events.proofs.Parts.{tick-there, tick-never, end-there, end-never}
 use Rattle.events.proofs.Ahead.{Ahead, ahead-first}
 
-module _ (partitions deadlines : List ℕ) (n records : ℕ) (ticks lengths next first : List ℕ) (places : ℕ) (so : Prepared partitions deadlines n records ticks lengths next first places) where
+module _ (partitions deadlines : List ℕ) (n records : ℕ) (ticks lengths : ℕ → ℕ) (next first : List ℕ) (places : ℕ) (so : Prepared partitions deadlines n records ticks lengths next first places) where
   abbrev pub script : List Release
   script = so .script
 

@@ -7,7 +7,7 @@ use mathlib.Core.Logic.{_⊎_, inl, inr, ⊎-elim}
 use native.Mathlib.Decide.{decLt, ℕ-discrete}
 use native.Mathlib.Omega.{arith}
 use lib.Dec.{eqb}
-use lib.ListN.{length, set, replicate, length-set, length-replicate, getD-replicate}
+use lib.ListN.{length, set, replicate, length-set, getD-replicate}
 use lib.Seq.{getD-set-same, getD-set-other}
 use borrow.Author.Tests.{eq-eqb, ne-eqb, lt-ltb, le-ltb}
 use Rattle.model.specs.declared.build.Release.{Release}
@@ -16,11 +16,11 @@ use Rattle.stepper.specs.Arrays.{at}
 use Rattle.stepper.specs.Lines.{taskOf, Next}
 use Rattle.events.specs.Parts.{never, Sooner, Soonest, tickOrNever, endOrNever, dueOf, aheadThen, endsNow}
 
-pub tick-there : (ticks : List ℕ) (records i : ℕ) → i < records → tickOrNever ticks records i ≡ at ticks i
+pub tick-there : (ticks : ℕ → ℕ) (records i : ℕ) → i < records → tickOrNever ticks records i ≡ ticks i
 unfolding tickOrNever
 tick-there ticks records i l = rw (lt-ltb i records l)
 
-pub tick-never : (ticks : List ℕ) (records i : ℕ) → records ≤ i → tickOrNever ticks records i ≡ never
+pub tick-never : (ticks : ℕ → ℕ) (records i : ℕ) → records ≤ i → tickOrNever ticks records i ≡ never
 unfolding tickOrNever
 tick-never ticks records i l = rw (le-ltb i records l)
 
@@ -32,15 +32,15 @@ pub end-never : (task left tick : ℕ) → mostTasks ≤ task → endOrNever tas
 unfolding endOrNever
 end-never task left tick l = rw (le-ltb task mostTasks l)
 
-pub due-now : (ticks lengths : List ℕ) (records i tick : ℕ) → i < records → at ticks i ≡ tick → dueOf ticks lengths records i tick ≡ at lengths i
+pub due-now : (ticks lengths : ℕ → ℕ) (records i tick : ℕ) → i < records → ticks i ≡ tick → dueOf ticks lengths records i tick ≡ lengths i
 unfolding dueOf
-due-now ticks lengths records i tick l e = rw (lt-ltb i records l, eq-eqb (at ticks i) tick e)
+due-now ticks lengths records i tick l e = rw (lt-ltb i records l, eq-eqb (ticks i) tick e)
 
-pub due-later : (ticks lengths : List ℕ) (records i tick : ℕ) → i < records → (at ticks i ≡ tick → ⊥) → dueOf ticks lengths records i tick ≡ 0
+pub due-later : (ticks lengths : ℕ → ℕ) (records i tick : ℕ) → i < records → (ticks i ≡ tick → ⊥) → dueOf ticks lengths records i tick ≡ 0
 unfolding dueOf
-due-later ticks lengths records i tick l ne = rw (lt-ltb i records l, ne-eqb (at ticks i) tick ne)
+due-later ticks lengths records i tick l ne = rw (lt-ltb i records l, ne-eqb (ticks i) tick ne)
 
-pub due-never : (ticks lengths : List ℕ) (records i tick : ℕ) → records ≤ i → dueOf ticks lengths records i tick ≡ 0
+pub due-never : (ticks lengths : ℕ → ℕ) (records i tick : ℕ) → records ≤ i → dueOf ticks lengths records i tick ≡ 0
 unfolding dueOf
 due-never ticks lengths records i tick l = rw (le-ltb i records l)
 
@@ -81,11 +81,11 @@ pub record LinedFrom (script : List Release) (i : ℕ) (first next : List ℕ) :
   pub first-at : (k : ℕ) → k < mostTasks → Next script k i (at first k)
   pub next-at : (x : ℕ) → i ≤ x → x < length script → Next script (taskOf script x) (suc x) (at next x)
 
-pub lined-none : (script : List Release) (records : ℕ) → records ≡ length script → LinedFrom script records (replicate 32 records) (replicate 1024 0)
-lined-none script records e =
+pub lined-none : (script : List Release) (records : ℕ) (next : List ℕ) → records ≡ length script → length next ≡ mostRecords → LinedFrom script records (replicate 32 records) next
+lined-none script records next e size =
     record {
       first-places = refl;
-      next-places = length-replicate {A = ℕ} 1024 0;
+      next-places = size;
       first-at = λ k l. rw (getD-replicate 32 k records 0 l) (record { from = omega arith; upto = omega arith; own = λ h. absurd (omega arith); between = λ x g h. absurd (omega arith) });
       next-at = λ x g h. absurd (omega arith);
     }

@@ -45,7 +45,7 @@ both-ends : (task left : ℕ) → task < mostTasks → left ≡ 0 → endsNow ta
 unfolding endsNow
 both-ends task left l e = rw (lt-ltb task mostTasks l, eq-eqb left 0 e)
 
-module _ (partitions deadlines : List ℕ) (n records : ℕ) (ticks lengths next first : List ℕ) (places : ℕ) (so : Prepared partitions deadlines n records ticks lengths next first places) where
+module _ (partitions deadlines : List ℕ) (n records : ℕ) (ticks lengths : ℕ → ℕ) (next first : List ℕ) (places : ℕ) (so : Prepared partitions deadlines n records ticks lengths next first places) where
   abbrev S : List Release
   S = so .script
 

@@ -7,18 +7,13 @@ use mathlib.Core.Logic.{_⊎_}
 use lib.Dec.{eqb, ltb}
 use lib.ListN.{length, set}
 use Rattle.laws.specs.Choice.{pick}
-use Rattle.model.specs.Limits.{mostTasks, mostRecords}
+use Rattle.model.specs.Limits.{mostTasks}
 use Rattle.stepper.specs.declared.Machine.{Machine}
 use Rattle.stepper.specs.Arrays.{at}
 
 -- later than every event
 abbrev pub never : ℕ
 never = 4_294_967_295
-
--- an array of the records' places, of which the first so many are those of f
-pub record Filled (f : ℕ → ℕ) (records : ℕ) (array : List ℕ) : Type 0 where
-  pub places : length array ≡ mostRecords
-  pub each : (i : ℕ) → i < records → at array i ≡ f i
 
 pub record Sooner (one other r : ℕ) : Type 0 where
   pub left : r ≤ one
@@ -32,18 +27,18 @@ pub record Soonest (f : ℕ → ℕ) (n r : ℕ) : Type 0 where
   pub one : (r ≡ never) ⊎ ((k : ℕ) × (k < n) × (r ≡ f k))
 
 -- the tick of a record, or never past the last
-unfoldable pub tickOrNever : List ℕ → (records i : ℕ) → ℕ
-tickOrNever ticks records i = pick (ltb i records) (at ticks i) never
+unfoldable pub tickOrNever : (ℕ → ℕ) → (records i : ℕ) → ℕ
+tickOrNever ticks records i = pick (ltb i records) (ticks i) never
 
 -- the end of what a partition runs, seen from a tick, or never where it is free
 unfoldable pub endOrNever : (task left tick : ℕ) → ℕ
 endOrNever task left tick = pick (ltb task mostTasks) (tick + left) never
 
 -- what a task releases at a tick, whose first record to come is i
-unfoldable pub dueOf : (ticks lengths : List ℕ) → (records i tick : ℕ) → ℕ
-dueOf ticks lengths records i tick = pick (ltb i records) (pick (eqb (at ticks i) tick) (at lengths i) 0) 0
+unfoldable pub dueOf : (ticks lengths : ℕ → ℕ) → (records i tick : ℕ) → ℕ
+dueOf ticks lengths records i tick = pick (ltb i records) (pick (eqb (ticks i) tick) (lengths i) 0) 0
 
-pub record Due (ticks lengths : List ℕ) (records : ℕ) (ahead : List ℕ) (n tick : ℕ) (releases : List ℕ) : Type 0 where
+pub record Due (ticks lengths : ℕ → ℕ) (records : ℕ) (ahead : List ℕ) (n tick : ℕ) (releases : List ℕ) : Type 0 where
   pub places : length releases ≡ mostTasks
   pub each : (k : ℕ) → k < n → at releases k ≡ dueOf ticks lengths records (at ahead k) tick
 

@@ -23,14 +23,14 @@ pub record LinedUp (script : List Release) (first next : List ℕ) : Type 0 wher
   pub first-at : (k : ℕ) → k < mostTasks → Next script k 0 (at first k)
   pub next-at : (i : ℕ) → i < length script → Next script (taskOf script i) (suc i) (at next i)
 
-pub record Prepared (partitions deadlines : List ℕ) (n records : ℕ) (ticks lengths next first : List ℕ) (places : ℕ) : Type 0 where
+pub record Prepared (partitions deadlines : List ℕ) (n records : ℕ) (ticks lengths : ℕ → ℕ) (next first : List ℕ) (places : ℕ) : Type 0 where
   pub table : List Task
   pub script : List Release
   pub given : Given table partitions n script
   pub ranks : Deadlines table n deadlines
   pub laid : Laid script lengths next
   pub count : records ≡ length script
-  pub ticks-at : (i : ℕ) → i < length script → at ticks i ≡ tickOf script i
+  pub ticks-at : (i : ℕ) → i < length script → ticks i ≡ tickOf script i
   pub lined-up : LinedUp script first next
   pub short : Short script
   pub room : length script ≤ places

@@ -23,6 +23,12 @@ recordAt i = 8 * scriptLength i
 unfoldable pub releaseAt : List ℕ → ℕ → Release
 releaseAt s i = record { tick = field s (recordAt i) 20; task = field s (recordAt i + 20) 5; length = field s (recordAt i + 20 + 5) 20 }
 
+abbrev pub tickAt : List ℕ → ℕ → ℕ
+tickAt s i = releaseAt s i .tick
+
+abbrev pub lengthAt : List ℕ → ℕ → ℕ
+lengthAt s i = releaseAt s i .length
+
 unfoldable pub spareAt : List ℕ → ℕ → ℕ
 spareAt s i = field s (recordAt i + 45) 3
 

@@ -11,7 +11,7 @@ ghost use lib.ListN.{length};
 ghost use Rattle.laws.specs.Joined.{joined, filled};
 ghost use Rattle.bits.specs.Field.{field};
 ghost use Rattle.model.specs.Rules.{firstBroken, WithinLimits};
-ghost use Rattle.script.specs.Script.{releaseAt, spareAt, recordsIn, comesBefore, inOrder, releaseRules, recordRules, scriptRules, recordAt, lengthRight};
+ghost use Rattle.script.specs.Script.{releaseAt, tickAt, lengthAt, spareAt, recordsIn, comesBefore, inOrder, releaseRules, recordRules, scriptRules, recordAt, lengthRight};
 
 // How many records the bytes hold.
 pub fn records_in(script: &[u8]) -> usize
@@ -38,6 +38,30 @@ pub fn read_release(script: &[u8], i: usize) -> Release
         task: task.value,
         length: length.value,
     }
+}
+
+// The tick of a record.
+pub fn read_tick(script: &[u8], i: usize) -> u32
+    requires { ⌜ i ≤ 1024 ⌝ }
+    ensures { λ r. ⌜ r ≡ tickAt (now (script .entry)) i ⌝ }
+{
+    let start = Cursor {
+        at: 8 * (Release::BYTES * i),
+    };
+    let tick = start.take(script, 20);
+    tick.value
+}
+
+// The length of a record.
+pub fn read_length(script: &[u8], i: usize) -> u32
+    requires { ⌜ i ≤ 1024 ⌝ }
+    ensures { λ r. ⌜ r ≡ lengthAt (now (script .entry)) i ⌝ }
+{
+    let start = Cursor {
+        at: 8 * (Release::BYTES * i) + 20 + 5,
+    };
+    let length = start.take(script, 20);
+    length.value
 }
 
 // The spare bits of a record.

@@ -52,11 +52,11 @@ pub job-on : (job : ℕ) (oldest : List ℕ) (starts : ℕ) → mostTasks ≤ st
 unfolding jobThen
 job-on job oldest starts l = rw (le-ltb starts mostTasks l)
 
-pub left-starts : (left : ℕ) (lengths : List ℕ) (job starts : ℕ) → starts < mostTasks → leftThen left lengths job starts ≡ at lengths job - 1
+pub left-starts : (left : ℕ) (lengths : ℕ → ℕ) (job starts : ℕ) → starts < mostTasks → leftThen left lengths job starts ≡ lengths job - 1
 unfolding leftThen
 left-starts left lengths job starts l = rw (lt-ltb starts mostTasks l)
 
-pub left-on : (left : ℕ) (lengths : List ℕ) (job starts : ℕ) → mostTasks ≤ starts → leftThen left lengths job starts ≡ left - 1
+pub left-on : (left : ℕ) (lengths : ℕ → ℕ) (job starts : ℕ) → mostTasks ≤ starts → leftThen left lengths job starts ≡ left - 1
 unfolding leftThen
 left-on left lengths job starts l = rw (le-ltb starts mostTasks l)
 

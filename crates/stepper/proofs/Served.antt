@@ -9,7 +9,7 @@ use Rattle.stepper.specs.declared.Machine.{Machine}
 use Rattle.stepper.specs.Arrays.{at, Sized, taskThen, jobThen, leftThen, Served, waitingThen, oldestThen, Left}
 use Rattle.stepper.proofs.Fill.{fill-more}
 
-module _ (m : Machine) (starts lengths : List ℕ) where
+module _ (m : Machine) (starts : List ℕ) (lengths : ℕ → ℕ) where
   pub served-none : Sized m → Served m starts lengths 0 m
   served-none sized =
       record {

@@ -72,7 +72,7 @@ module _ (table : List Task) (partitions : List ℕ) (n : ℕ) (script : List Re
       let s = follows .waits k l in
       omega (arith, s .count, line-few script k (at (m .oldest) k) (waitingBefore (S (partitionOf partitions k)) (patternOf script) t k) t (s .upto) (s .line))
 
-  module _ (m : Machine) (t : ℕ) (follows : Follows table partitions n script m t) (deadlines lengths next releases waiting chosen starts : List ℕ)
+  module _ (m : Machine) (t : ℕ) (follows : Follows table partitions n script m t) (deadlines : List ℕ) (lengths : ℕ → ℕ) (next releases waiting chosen starts : List ℕ)
       (ranks : Deadlines table n deadlines) (laid : Laid script lengths next) (due : Releases n script t releases)
       (joins : Joined n (m .waiting) releases waiting) (chooses : Chosen partitions deadlines waiting n chosen) (begun : Starts (m .left) chosen starts) where
     abbrev pub between : Machine
@@ -171,7 +171,7 @@ module _ (table : List Task) (partitions : List ℕ) (n : ℕ) (script : List Re
           let f = first-of p k j js below e in
           let own-job : at (r .job) p ≡ at (m .oldest) k = job-now p l ∙ (job-starts (at (m .job) p) (m .oldest) (at starts p) small ∙ ap (at (m .oldest)) b) in
           let length-then : at (r .left) p ≡ lengthOf script (at (m .oldest) k) - 1 =
-          left-now p l ∙ (left-starts (at (m .left) p) lengths _ (at starts p) small ∙ (ap (λ (x : ℕ). at lengths x - 1) (job-starts (at (m .job) p) (m .oldest) (at starts p) small ∙ ap (at (m .oldest)) b) ∙ ap (λ (x : ℕ). x - 1) (laid .length-at (at (m .oldest) k) (f .0)))) in
+          left-now p l ∙ (left-starts (at (m .left) p) lengths _ (at starts p) small ∙ (ap (λ (x : ℕ). lengths x - 1) (job-starts (at (m .job) p) (m .oldest) (at starts p) small ∙ ap (at (m .oldest)) b) ∙ ap (λ (x : ℕ). x - 1) (laid .length-at (at (m .oldest) k) (f .0)))) in
           let own : taskOf script (at (m .oldest) k) ≡ k = follows .waits k below .own (f .0) in
           subst (ShowsRunning script r p) (sym e′)
           (task-now p l ∙ (task-free (at (m .task) p) (at (m .left) p) (at starts p) zero-left ∙ b), length-then ∙ ap (λ (x : Job). x .length - 1) (sym (f .1)), rw own-job (f .0), rw own-job own, rw own-job (ap (λ (x : Job). x .release) (sym (f .1))))
@@ -237,7 +237,7 @@ module _ (table : List Task) (partitions : List ℕ) (n : ℕ) (script : List Re
           }
 
 -- the same, of arrays that stand for an order and a script
-module _ (partitions deadlines : List ℕ) (n : ℕ) (lengths next : List ℕ) (m : Machine) (releases : List ℕ) (so : Ready partitions deadlines n lengths next m releases) where
+module _ (partitions deadlines : List ℕ) (n : ℕ) (lengths : ℕ → ℕ) (next : List ℕ) (m : Machine) (releases : List ℕ) (so : Ready partitions deadlines n lengths next m releases) where
   pub ready-waits : (k : ℕ) → k < n → at (m .waiting) k ≤ 1024
   ready-waits = waits-few (so .table) partitions n (so .script) (so .given) (so .laid .few) (so .follows)
 

@@ -63,11 +63,11 @@ taskThen task left starts = pick (eqb left 0) starts task
 unfoldable pub jobThen : ℕ → List ℕ → (starts : ℕ) → ℕ
 jobThen job oldest starts = pick (ltb starts mostTasks) (at oldest starts) job
 
-unfoldable pub leftThen : ℕ → List ℕ → (job starts : ℕ) → ℕ
-leftThen left lengths job starts = pick (ltb starts mostTasks) (at lengths job - 1) (left - 1)
+unfoldable pub leftThen : ℕ → (ℕ → ℕ) → (job starts : ℕ) → ℕ
+leftThen left lengths job starts = pick (ltb starts mostTasks) (lengths job - 1) (left - 1)
 
 -- the partitions below p are served
-pub record Served (m : Machine) (starts lengths : List ℕ) (p : ℕ) (then : Machine) : Type 0 where
+pub record Served (m : Machine) (starts : List ℕ) (lengths : ℕ → ℕ) (p : ℕ) (then : Machine) : Type 0 where
   pub sized : Sized then
   pub waiting : then .waiting ≡ m .waiting
   pub oldest : then .oldest ≡ m .oldest

@@ -49,7 +49,7 @@ abbrev pub Deadlines : List Task → (n : ℕ) → List ℕ → Type 0
 Deadlines table n deadlines = (k : ℕ) → k < n → at deadlines k ≡ deadlineOf table k
 
 -- the arrays stand for an order, a script and a tick of it, and the machine follows the definition so far
-pub record Ready (partitions deadlines : List ℕ) (n : ℕ) (lengths next : List ℕ) (m : Machine) (releases : List ℕ) : Type 0 where
+pub record Ready (partitions deadlines : List ℕ) (n : ℕ) (lengths : ℕ → ℕ) (next : List ℕ) (m : Machine) (releases : List ℕ) : Type 0 where
   pub table : List Task
   pub script : List Release
   pub tick : ℕ

@@ -32,8 +32,8 @@ InLine script task i (j ∷ younger) tick =
     (r : ℕ) × (i ≤ r) × (r < length script) × (taskOf script r ≡ task) × ((x : ℕ) → i ≤ x → x < r → taskOf script x ≡ task → ⊥)
     × (j ≡ job (tickOf script r) (lengthOf script r)) × (tickOf script r < tick) × InLine script task (suc r) younger tick
 
--- a script's records as arrays: their lengths, and of each the next of its task
-pub record Laid (script : List Release) (lengths next : List ℕ) : Type 0 where
+-- a script's records by number: their lengths, and of each the next of its task
+pub record Laid (script : List Release) (lengths : ℕ → ℕ) (next : List ℕ) : Type 0 where
   pub few : length script ≤ mostRecords
-  pub length-at : (i : ℕ) → i < length script → at lengths i ≡ lengthOf script i
+  pub length-at : (i : ℕ) → i < length script → lengths i ≡ lengthOf script i
   pub next-at : (i : ℕ) → i < length script → Next script (taskOf script i) (suc i) (at next i)

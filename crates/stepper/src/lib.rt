@@ -5,6 +5,7 @@ use model::Release;
 ghost use mathlib.Core.Path.{_≡_};
 ghost use Prim.Native.Nat.{ℕ, suc, _+_, _-_, _≤_, _<_};
 ghost use lib.ListN.{length};
+ghost use Rattle.script.specs.Script.{lengthAt};
 ghost use Rattle.stepper.specs.Arrays.{at, Sized, countOf, Joined, betterOf, Chosen, startsOf, Starts, taskThen, jobThen, leftThen, Served, waitingThen, oldestThen, Left, Lowered};
 ghost use Rattle.stepper.specs.Follow.{Follows, Ready, Fresh, Skipped};
 
@@ -12,9 +13,9 @@ ghost use Rattle.stepper.specs.Follow.{Follows, Ready, Fresh, Skipped};
 // of each partition the task that runs, MOST_TASKS where it is free, its record and its time left.
 pub struct Machine {
     pub waiting: [u32; Order::MOST_TASKS],
-    pub oldest: [usize; Order::MOST_TASKS],
+    pub oldest: [u16; Order::MOST_TASKS],
     pub task: [usize; Build::MOST_PARTITIONS],
-    pub job: [usize; Build::MOST_PARTITIONS],
+    pub job: [u16; Build::MOST_PARTITIONS],
     pub left: [u32; Build::MOST_PARTITIONS],
 }
 
@@ -114,7 +115,7 @@ fn task_then(task: usize, left: u32, starts: usize) -> usize
     if left == 0 { starts } else { task }
 }
 
-fn job_then(job: usize, oldest: &[usize; Order::MOST_TASKS], starts: usize) -> usize
+fn job_then(job: u16, oldest: &[u16; Order::MOST_TASKS], starts: usize) -> u16
     ensures { λ r. ⌜ r ≡ jobThen job (now (oldest .entry)) starts ⌝ }
 {
     if starts < Order::MOST_TASKS {
@@ -124,12 +125,12 @@ fn job_then(job: usize, oldest: &[usize; Order::MOST_TASKS], starts: usize) -> u
     }
 }
 
-fn left_then(left: u32, lengths: &[u32; Release::MOST], job: usize, starts: usize) -> u32
+fn left_then(left: u32, script: &[u8], job: u16, starts: usize) -> u32
     requires { ⌜ (starts < 32 → job < 1024) ⌝ }
-    ensures { λ r. ⌜ r ≡ leftThen left (now (lengths .entry)) job starts ⌝ }
+    ensures { λ r. ⌜ r ≡ leftThen left (lengthAt (now (script .entry))) job starts ⌝ }
 {
     if starts < Order::MOST_TASKS {
-        less(lengths[job], 1)
+        less(script::read_length(script, job as usize), 1)
     } else {
         less(left, 1)
     }
@@ -145,16 +146,16 @@ fn waiting_then(waiting: u32, starts: usize, k: usize) -> u32
     }
 }
 
-fn oldest_then(oldest: usize, next: &[usize; Release::MOST], starts: usize, k: usize) -> usize
+fn oldest_then(oldest: u16, next: &[u16; Release::MOST], starts: usize, k: usize) -> u16
     requires { ⌜ (starts ≡ k → oldest < 1024) ⌝ }
     ensures { λ r. ⌜ r ≡ oldestThen oldest (now (next .entry)) starts k ⌝ }
 {
-    if starts == k { next[oldest] } else { oldest }
+    if starts == k { next[oldest as usize] } else { oldest }
 }
 
 impl Machine {
     // Before tick 0.
-    pub fn new(first: [usize; Order::MOST_TASKS]) -> Machine
+    pub fn new(first: [u16; Order::MOST_TASKS]) -> Machine
         requires { ⌜ length first ≡ 32 ⌝ }
         ensures { λ r. ⌜ Fresh first r ⌝ }
     {
@@ -162,7 +163,7 @@ impl Machine {
             waiting: [0u32; Order::MOST_TASKS],
             oldest: first,
             task: [Order::MOST_TASKS; Build::MOST_PARTITIONS],
-            job: [0usize; Build::MOST_PARTITIONS],
+            job: [0u16; Build::MOST_PARTITIONS],
             left: [0u32; Build::MOST_PARTITIONS],
         }
     }
@@ -171,10 +172,10 @@ impl Machine {
     fn serve(
         self,
         starts: [usize; Build::MOST_PARTITIONS],
-        lengths: &[u32; Release::MOST],
+        script: &[u8],
     ) -> Machine
         requires { ⌜ Sized self × ((p : ℕ) → p < 32 → at starts p < 32 → at (self .oldest) (at starts p) < 1024) ⌝ }
-        ensures { λ r. ⌜ Served self starts (now (lengths .entry)) 32 r ⌝ }
+        ensures { λ r. ⌜ Served self starts (lengthAt (now (script .entry))) 32 r ⌝ }
     {
         let oldest = self.oldest;
         let mut then = self;
@@ -184,7 +185,7 @@ impl Machine {
             let job = job_then(self.job[p], &oldest, k);
             then.task[p] = task_then(self.task[p], self.left[p], k);
             then.job[p] = job;
-            then.left[p] = left_then(self.left[p], lengths, job, k);
+            then.left[p] = left_then(self.left[p], script, job, k);
             p += 1;
         }
         then
@@ -196,7 +197,7 @@ impl Machine {
         partitions: [u32; Order::MOST_TASKS],
         tasks: usize,
         starts: [usize; Build::MOST_PARTITIONS],
-        next: &[usize; Release::MOST],
+        next: &[u16; Release::MOST],
     ) -> Machine
         requires { ⌜ Sized self × (tasks ≤ 32) × ((k : ℕ) → k < tasks → at partitions k < 32) × ((k : ℕ) → k < tasks → at starts (at partitions k) ≡ k → at (self .oldest) k < 1024) ⌝ }
         ensures { λ r. ⌜ Left self partitions starts (now (next .entry)) tasks r ⌝ }
@@ -218,12 +219,12 @@ impl Machine {
         partitions: [u32; Order::MOST_TASKS],
         deadlines: [u32; Order::MOST_TASKS],
         tasks: usize,
-        lengths: &[u32; Release::MOST],
-        next: &[usize; Release::MOST],
+        script: &[u8],
+        next: &[u16; Release::MOST],
         releases: [u32; Order::MOST_TASKS],
     ) -> Machine
-        requires { ⌜ Ready partitions deadlines tasks (now lengths) (now next) self releases ⌝ }
-        ensures { λ r. ⌜ ((so : Ready partitions deadlines tasks (now (lengths .entry)) (now (next .entry)) self releases) → Follows (so .table) partitions tasks (so .script) r (suc (so .tick))) ⌝ }
+        requires { ⌜ Ready partitions deadlines tasks (lengthAt (now script)) (now next) self releases ⌝ }
+        ensures { λ r. ⌜ ((so : Ready partitions deadlines tasks (lengthAt (now (script .entry))) (now (next .entry)) self releases) → Follows (so .table) partitions tasks (so .script) r (suc (so .tick))) ⌝ }
     {
         let before = self.waiting;
         let waiting = join(before, releases, tasks);
@@ -231,7 +232,7 @@ impl Machine {
         let left = self.left;
         let starts = starting(left, chosen);
         self.waiting = waiting;
-        let served = self.serve(starts, lengths);
+        let served = self.serve(starts, script);
         served.leave(partitions, tasks, starts, next)
     }
 

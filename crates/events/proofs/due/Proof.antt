@@ -6,15 +6,16 @@ use Rattle.stepper.proofs.Fill.{fill-more}
 use Rattle.stepper.specs.Arrays.{at}
 use Rattle.events.specs.Parts.{dueOf}
 use denote.Ref.{now}
+use Rattle.script.specs.Script.{tickAt, lengthAt}
 use borrow.Author.Needs.{needs}
 use Rattle.events.proofs.due.Statement.{statement}
 use Rattle.events.proofs.due.Tie as tie
 
 abbrev Inv-loop : tie.InvT-loop
-Inv-loop ticks lengths records tasks tick ahead releases₀ k₀ releases k = (k ≤ tasks) × (length releases ≡ 32) × ((i : ℕ) → i < k → at releases i ≡ dueOf ticks lengths records (at ahead i) tick)
+Inv-loop script records tasks tick ahead releases₀ k₀ releases k = (k ≤ tasks) × (length releases ≡ 32) × ((i : ℕ) → i < k → at releases i ≡ dueOf (tickAt script) (lengthAt script) records (at ahead i) tick)
 
 abbrev μ-loop : tie.MeasureT-loop
-μ-loop ticks lengths records tasks tick ahead releases₀ k₀ releases k = tasks - k
+μ-loop script records tasks tick ahead releases₀ k₀ releases k = tasks - k
 
 loop-holds : tie.Need-loop-holds Inv-loop μ-loop
 loop-holds c = (omega arith, refl, λ i h. absurd (omega arith))
@@ -24,6 +25,9 @@ mul-due-then c = search needs
 
 array-read-due-then : tie.Need-array-read-due-then Inv-loop μ-loop
 array-read-due-then c = search needs
+
+cast-due-then : tie.Need-cast-due-then Inv-loop μ-loop
+cast-due-then c = search needs
 
 due-then-requires : tie.Need-due-then-requires Inv-loop μ-loop
 due-then-requires c κs = search needs
@@ -43,8 +47,8 @@ loop-less c = search needs
 loop-again : tie.Need-loop-again Inv-loop μ-loop
 loop-again c =
     let l = c .before .before .loop in
-    let a = c .before .before .before .args in
-    (omega arith, simp length-set (l .inv .1), fill-more (l .releases) (λ (i : ℕ). dueOf (now (a .ticks)) (now (a .lengths)) (a .records) (at (a .t4) i) (a .tick)) (l .k) (c .due-then .result) (omega arith) (l .inv .2) (c .due-then .ensures))
+    let a = c .before .before .before .before .args in
+    (omega arith, simp length-set (l .inv .1), fill-more (l .releases) (λ (i : ℕ). dueOf (tickAt (now (a .script))) (lengthAt (now (a .script))) (a .records) (at (a .t3) i) (a .tick)) (l .k) (c .due-then .result) (omega arith) (l .inv .2) (c .due-then .ensures))
 
 returns : tie.Need-returns Inv-loop μ-loop
 returns c = record { places = c .before .loop .inv .1; each = λ k h. c .before .loop .inv .2 k (omega arith) }
@@ -58,6 +62,7 @@ due-spec =
     loop-holds
     mul-due-then
     array-read-due-then
+    cast-due-then
     due-then-requires
     mul-releases
     array-write-releases

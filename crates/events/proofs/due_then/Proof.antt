@@ -1,38 +1,27 @@
-use mathlib.Core.Path.{sym}
+use mathlib.Core.Path.{sym, _∙_}
 use Rattle.events.proofs.Parts.{due-now, due-later, due-never}
 use borrow.Author.Needs.{needs}
 use Rattle.events.proofs.due_then.Statement.{statement}
 use Rattle.events.proofs.due_then.Tie as tie
 
-mul-if2 : tie.Need-mul-if2
-mul-if2 c = search needs
+read-tick-requires : tie.Need-read-tick-requires
+read-tick-requires c κs = search needs
 
-element-copy-out-if2 : tie.Need-element-copy-out-if2
-element-copy-out-if2 c = search needs
-
-mul-result : tie.Need-mul-result
-mul-result c = search needs
-
-element-copy-out-result : tie.Need-element-copy-out-result
-element-copy-out-result c = search needs
+read-length-requires : tie.Need-read-length-requires
+read-length-requires c κs = search needs
 
 returns : tie.Need-returns
-returns c = sym (due-now _ _ _ _ _ (c .before .before .before .if1 .taken) (c .before .if2 .taken))
+returns c =
+    c .read-length .ensures
+    ∙ sym (due-now _ _ _ _ _ (c .before .before .before .if1 .taken) (sym (c .before .before .read-tick .ensures) ∙ c .before .if2 .taken))
 
 returns-2 : tie.Need-returns-2
-returns-2 c = sym (due-later _ _ _ _ _ (c .before .before .if1 .taken) (c .if2 .left))
+returns-2 c =
+    sym (due-later _ _ _ _ _ (c .before .before .if1 .taken) (λ e. c .if2 .left (c .before .read-tick .ensures ∙ e)))
 
 returns-3 : tie.Need-returns-3
 returns-3 c = sym (due-never _ _ _ _ _ (c .if1 .left))
 
 pub due-then-spec : {M : Type 1} → statement M
 due-then-spec =
-    tie.close
-    (tie.spec
-    mul-if2
-    element-copy-out-if2
-    mul-result
-    element-copy-out-result
-    returns
-    returns-2
-    returns-3)
+    tie.close (tie.spec read-tick-requires read-length-requires returns returns-2 returns-3)

@@ -41,6 +41,9 @@ mul-i c = search needs
 element-copy-out-i : tie.Need-element-copy-out-i Inv-loop μ-loop
 element-copy-out-i c = search needs
 
+cast-i : tie.Need-cast-i Inv-loop μ-loop
+cast-i c = search needs
+
 mul-out : tie.Need-mul-out Inv-loop μ-loop
 mul-out c =
     let s = c .before .before .before .before .before .before .before .before in
@@ -110,6 +113,7 @@ note-spec =
     ends-now-requires
     mul-i
     element-copy-out-i
+    cast-i
     mul-out
     slice-write-out
     add-p

@@ -1,5 +1,6 @@
 use native.Mathlib.Nat.{le-antisymm}
 use denote.Ref.{now}
+use Rattle.script.specs.Script.{lengthAt}
 use Rattle.stepper.specs.Arrays.{leftThen}
 use Rattle.stepper.proofs.Leaves.{job-starts}
 use mathlib.Core.Path.{ap, _∙_}
@@ -12,13 +13,13 @@ use Rattle.stepper.proofs.Machine.serve.Statement.{statement}
 use Rattle.stepper.proofs.Machine.serve.Tie as tie
 
 abbrev Inv-loop : tie.InvT-loop
-Inv-loop lengths self starts oldest then₀ p₀ then p = (p ≤ 32) × Served self starts lengths p then
+Inv-loop script self starts oldest then₀ p₀ then p = (p ≤ 32) × Served self starts (lengthAt script) p then
 
 abbrev μ-loop : tie.MeasureT-loop
-μ-loop lengths self starts oldest then₀ p₀ then p = 32 - p
+μ-loop script self starts oldest then₀ p₀ then p = 32 - p
 
 loop-holds : tie.Need-loop-holds Inv-loop μ-loop
-loop-holds c = (omega arith, served-none _ _ _ (c .before .pre .0))
+loop-holds c = (omega arith, served-none _ _ _ (c .before .before .pre .0))
 
 mul-k : tie.Need-mul-k Inv-loop μ-loop
 mul-k c = search needs
@@ -70,7 +71,7 @@ element-copy-out-left-then c = search needs
 
 left-then-requires : tie.Need-left-then-requires Inv-loop μ-loop
 left-then-requires c κs = λ small.
-    let s = c .before .before .before .before .before .before .before .before .before .before in
+    let s = c .before .before .before .before .before .before .before .before .before .before .before in
     let l = c .before .before .before .before .before .before .before .before .loop in
     let j = c .before .before .before .before .job-then .ensures ∙ job-starts _ (s .args .t1 .oldest) (at (s .args .t2) (l .p)) small in
     omega (arith, s .pre .1 (l .p) (c .before .before .before .before .before .before .before .loop-test .taken) small)
@@ -89,12 +90,12 @@ loop-less c = search needs
 
 loop-again : tie.Need-loop-again Inv-loop μ-loop
 loop-again c =
-    let s = c .before .before .before .before .before .before .before .before .before .before .before in
+    let s = c .before .before .before .before .before .before .before .before .before .before .before .before in
     let l = c .before .before .before .before .before .before .before .before .before .loop in
     let job = c .before .before .before .before .before .job-then .ensures in (
       omega arith,
-      served-more (s .args .t1) (s .args .t2) (now (s .args .lengths)) (l .p) (c .before .before .task-then .result) (c .before .before .before .before .before .job-then .result) (c .left-then .result) (l .then) (c .before .before .before .before .before .before .before .before .loop-test .taken) (c .before .before .task-then .ensures) job
-          (c .left-then .ensures ∙ ap (λ (x : ℕ). leftThen (at (s .args .t1 .left) (l .p)) (now (s .args .lengths)) x (at (s .args .t2) (l .p))) job) (l .inv .1),
+      served-more (s .args .t1) (s .args .t2) (lengthAt (now (s .args .script))) (l .p) (c .before .before .task-then .result) (c .before .before .before .before .before .job-then .result) (c .left-then .result) (l .then) (c .before .before .before .before .before .before .before .before .loop-test .taken) (c .before .before .task-then .ensures) job
+          (c .left-then .ensures ∙ ap (λ (x : ℕ). leftThen (at (s .args .t1 .left) (l .p)) (lengthAt (now (s .args .script))) x (at (s .args .t2) (l .p))) job) (l .inv .1),
     )
 
 returns : tie.Need-returns Inv-loop μ-loop

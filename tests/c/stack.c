@@ -1,0 +1,175 @@
+// How many bytes of stack each entry point takes, the most over large and refused inputs: less than 16,384.
+#define _XOPEN_SOURCE 700
+#include <stdio.h>
+#include <string.h>
+#include <ucontext.h>
+
+#include "jefkantu.h"
+
+enum { ROOM = 1 << 20, LIMIT = 16384, TASKS = 32, RECORD_BYTES = 6 };
+
+static uint8_t painted[ROOM] __attribute__((aligned(16)));
+static ucontext_t here, there;
+
+// What the calls take and give, and how much of it they see.
+static uint32_t processors, tasks;
+static uint32_t widths[TASKS], periods[TASKS], deadlines[TASKS], runs[TASKS];
+static uint8_t order[JEFKANTU_MOST_ORDER_BYTES], build[JEFKANTU_MOST_BUILD_BYTES], script[JEFKANTU_MOST_RECORDS * RECORD_BYTES];
+static size_t order_len, build_len, script_len, room, places;
+static uint32_t numbers[1][JEFKANTU_ORDER_NUMBERS], finish[JEFKANTU_MOST_RECORDS];
+static uint64_t word;
+
+static void call_nothing(void) {}
+
+static void call_read(void) { word = jefkantu_read_order(order, order_len, numbers); }
+
+static void call_write(void) {
+    word = jefkantu_write_order(processors, widths, tasks, periods, tasks, deadlines, tasks, runs, tasks, order, room);
+}
+
+static void call_plan(void) { word = jefkantu_plan(order, order_len, build, room); }
+
+static void call_check(void) { word = jefkantu_check(order, order_len, build, build_len); }
+
+static void call_run(void) {
+    word = jefkantu_run(order, order_len, build, build_len, script, script_len, finish, places);
+}
+
+// How far down a call writes on a stack of one colour.
+static size_t depth_on(uint8_t colour, void (*call)(void)) {
+    memset(painted, colour, sizeof painted);
+    getcontext(&there);
+    there.uc_stack.ss_sp = painted;
+    there.uc_stack.ss_size = sizeof painted;
+    there.uc_link = &here;
+    makecontext(&there, call, 0);
+    swapcontext(&here, &there);
+    size_t clean = 0;
+    while (clean < sizeof painted && painted[clean] == colour) {
+        clean++;
+    }
+    return sizeof painted - clean;
+}
+
+// On two colours, since the last byte that is written may be of one.
+static size_t depth(void (*call)(void)) {
+    size_t one = depth_on(0xA5, call);
+    size_t other = depth_on(0x5A, call);
+    return one < other ? other : one;
+}
+
+static size_t most_read, most_write, most_plan, most_check, most_run;
+static int failed;
+
+// Calls, and keeps the most; the answer must have the number.
+static void calls(const char *what, void (*call)(void), size_t *most, uint32_t number) {
+    size_t bytes = depth(call) - depth(call_nothing);
+    if (*most < bytes) {
+        *most = bytes;
+    }
+    if (jefkantu_number(word) != number) {
+        failed = 1;
+        printf("not so: %s answers %u, not %u\n", what, jefkantu_number(word), number);
+    }
+}
+
+static void put_record(size_t i, uint32_t tick, uint32_t task, uint32_t length) {
+    uint64_t bits = (uint64_t)tick << 28 | (uint64_t)task << 23 | (uint64_t)length << 3;
+    for (size_t k = 0; k < RECORD_BYTES; k++) {
+        script[RECORD_BYTES * i + k] = (uint8_t)(bits >> (8 * (RECORD_BYTES - 1 - k)));
+    }
+}
+
+// 32 tasks of a width, written, read, planned and checked.
+static void plan_tasks(uint32_t width, uint32_t period, uint32_t run) {
+    processors = 64;
+    tasks = TASKS;
+    for (size_t i = 0; i < TASKS; i++) {
+        widths[i] = width;
+        periods[i] = period + (uint32_t)i;
+        deadlines[i] = period;
+        runs[i] = run;
+    }
+    room = sizeof order;
+    calls("an order written", call_write, &most_write, 0);
+    order_len = jefkantu_count(word);
+    calls("an order read", call_read, &most_read, 0);
+    room = sizeof build;
+    calls("an order planned", call_plan, &most_plan, 0);
+    build_len = jefkantu_count(word);
+    calls("a build checked", call_check, &most_check, 0);
+}
+
+// The longest script: every task again and again, each some ticks after the one before it.
+static void run_longest(uint32_t round, uint32_t apart, uint32_t length) {
+    for (size_t i = 0; i < JEFKANTU_MOST_RECORDS; i++) {
+        uint32_t task = (uint32_t)(i % TASKS);
+        put_record(i, (uint32_t)(i / TASKS) * round + task * apart, task, length);
+    }
+    script_len = sizeof script;
+    places = JEFKANTU_MOST_RECORDS;
+    calls("the longest script", call_run, &most_run, 0);
+}
+
+// Refused at the end of what each call does.
+static void refuse_last(void) {
+    put_record(JEFKANTU_MOST_RECORDS - 1, 1048575, TASKS - 1, 0);
+    calls("a job of no length", call_run, &most_run, 44);
+    places = 0;
+    calls("no place for finish ticks", call_run, &most_run, 46);
+    build[build_len - 1] ^= 0x02;
+    calls("a response that was invented", call_check, &most_check, 30);
+    calls("a run of that build", call_run, &most_run, 30);
+    room = 0;
+    calls("no room for a build", call_plan, &most_plan, 12);
+    calls("no room for an order", call_write, &most_write, 12);
+    runs[TASKS - 1] = deadlines[TASKS - 1] + 1;
+    calls("a run time over its deadline", call_write, &most_write, 10);
+    order[order_len - 1] |= 1;
+    calls("a spare bit in the last task", call_read, &most_read, 6);
+    calls("a plan of that order", call_plan, &most_plan, 6);
+    calls("a check of that order", call_check, &most_check, 6);
+}
+
+// Two of the widest tasks that no partition takes together.
+static void refuse_plan(void) {
+    processors = 64;
+    tasks = 2;
+    for (size_t i = 0; i < tasks; i++) {
+        widths[i] = 64;
+        periods[i] = deadlines[i] = runs[i] = 1000000;
+    }
+    room = sizeof order;
+    calls("the widest tasks", call_write, &most_write, 0);
+    order_len = jefkantu_count(word);
+    room = sizeof build;
+    calls("no place for the second", call_plan, &most_plan, 11);
+}
+
+static void tell(const char *call, size_t most) {
+    printf("%s: %zu bytes of stack\n", call, most);
+    if (most >= LIMIT) {
+        failed = 1;
+        printf("not so: %s takes less than %d\n", call, LIMIT);
+    }
+}
+
+int main(void) {
+    plan_tasks(1, 1000, 20);
+    run_longest(1100, 0, 20);
+    run_longest(1100, 31, 1);
+    refuse_last();
+    plan_tasks(8, 1000, 200);
+    run_longest(1100, 31, 200);
+    refuse_last();
+    plan_tasks(2, 1000, 1000);
+    run_longest(2000, 1, 1000);
+    refuse_last();
+    refuse_plan();
+    tell("jefkantu_read_order", most_read);
+    tell("jefkantu_write_order", most_write);
+    tell("jefkantu_plan", most_plan);
+    tell("jefkantu_check", most_check);
+    tell("jefkantu_run", most_run);
+    return failed;
+}
