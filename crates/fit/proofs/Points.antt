@@ -12,7 +12,7 @@ use Rattle.demand.specs.Priority.{inPartition, outranks, higher, lower, rank}
 use Rattle.demand.specs.Releases.{cost, ceilDiv, releasesIn, releasesBy, jobs}
 use Rattle.demand.specs.Test.{firstMet, blocking, windowDemand, window, higherWork, startDemand, start, largestFound, response, worst, verdict}
 use Rattle.fit.specs.Kinds.{Task, Partition, Member, Build, Done, Refused, FirstFit}
-use Rattle.fit.specs.Turns.{isUnplaced, comesBefore, nextTask}
+use Rattle.fit.specs.Turns.{isUnplaced, before, comesBefore, nextTask}
 use Rattle.fit.specs.Steps.{memberPasses, membersPass, accepts, lowestAccepting, opening, step, unlessRefused, steps, firstFit}
 use Rattle.fit.specs.Recorded.{memberOf, buildOf, recorded, fitted}
 
@@ -47,5 +47,5 @@ pub record Points : Type 0 where
   pub p2-accepted : fitted sample 3 3 .answer ≡ Done 0
 
 pub points : Points
-unfolding sum largest every joined smallest firstOf inPartition outranks higher lower rank cost ceilDiv releasesIn releasesBy jobs firstMet blocking windowDemand window higherWork startDemand start largestFound response worst verdict isUnplaced comesBefore nextTask memberPasses membersPass accepts lowestAccepting opening step unlessRefused steps firstFit memberOf buildOf recorded fitted
+unfolding sum largest every joined smallest firstOf inPartition outranks higher lower rank cost ceilDiv releasesIn releasesBy jobs firstMet blocking windowDemand window higherWork startDemand start largestFound response worst verdict isUnplaced before comesBefore nextTask memberPasses membersPass accepts lowestAccepting opening step unlessRefused steps firstFit memberOf buildOf recorded fitted
 points = record { p1 = refl; p2 = refl; p2-accepted = refl }
