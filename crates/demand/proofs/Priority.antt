@@ -1,5 +1,5 @@
 -- Priority is a strict order without ties; membership is shared; ranks count.
-use mathlib.Core.Path.{_≡_, refl, sym}
+use mathlib.Core.Path.{_≡_, refl, sym, _∙_}
 use mathlib.Core.Bool.{Bool, true, false, _&&_, _||_}
 use mathlib.Core.List.{List}
 use mathlib.Core.Logic.{_⊎_, inl, inr}
@@ -15,7 +15,7 @@ use Rattle.laws.proofs.Sums.{sum-none, sum-more}
 use Rattle.laws.proofs.Only.{only-le}
 use Rattle.laws.proofs.Picked.{sum-most, sum-with}
 use Rattle.demand.specs.Kinds.{Task}
-use Rattle.demand.specs.Priority.{deadlineOf, outranks, inPartition, higher, lower, rank}
+use Rattle.demand.specs.Priority.{deadlineOf, outranks, inPartition, higher, higherBy, lower, rank}
 
 -- what it is to outrank
 abbrev pub Outranks : ℕ → ℕ → ℕ → ℕ → Type 0
@@ -89,13 +89,31 @@ module _ (table : List Task) (partitions : List ℕ) where
   unfolding lower higher
   lower-higher i j = rw (in-swap partitions i j)
 
+  -- by the numbers that the code hands over
+  abbrev pub byNumbers : ℕ → ℕ → Bool
+  byNumbers i j = higherBy (getD partitions i 0) (deadlineOf table i) i (getD partitions j 0) (deadlineOf table j) j
+
+  higher-by : (i j : ℕ) → byNumbers i j ≡ higher table partitions i j
+  unfolding higherBy higher inPartition
+  higher-by i j = refl
+
+  pub higher-is : (i j : ℕ) (r b : Bool) → r ≡ byNumbers i j → r ≡ b → higher table partitions i j ≡ b
+  higher-is i j r b e f = sym (higher-by i j) ∙ (sym e ∙ f)
+
+  pub lower-by : (i j : ℕ) → byNumbers j i ≡ lower table partitions i j
+  lower-by i j = higher-by j i ∙ sym (lower-higher i j)
+
   pub rank-none : (i : ℕ) → rank table partitions 0 i ≡ 0
   unfolding rank
   rank-none i = sum-none _
 
-  pub rank-more : (n i : ℕ) → rank table partitions (n + 1) i ≡ rank table partitions n i + only (higher table partitions i n) 1
+  rank-more : (n i : ℕ) → rank table partitions (n + 1) i ≡ rank table partitions n i + only (higher table partitions i n) 1
   unfolding rank
   rank-more n i = sum-more _ n
+
+  -- one more task is looked at
+  pub rank-next : (n i count k : ℕ) (b : Bool) → count ≡ rank table partitions n i → b ≡ byNumbers i n → k ≡ only b 1 → count + k ≡ rank table partitions (n + 1) i
+  rank-next n i count k b e f g = cc (rank-more n i, higher-by i n)
 
   pub rank-le : (n i : ℕ) → rank table partitions n i ≤ n
   unfolding rank

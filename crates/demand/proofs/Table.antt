@@ -15,7 +15,7 @@ use Rattle.demand.specs.Test.{Sound, firstMet, blocking, windowDemand, w
 use Rattle.demand.specs.Meaning.{FirstMetAt, IsWindow, IsStart}
 use Rattle.demand.specs.Packed.{startOver, windowOver, responseOver}
 use Rattle.demand.proofs.Releases.{by-mono, in-by, cost-least, cost-in-time, cost-most, period-least}
-use Rattle.demand.proofs.Priority.{higher-self}
+use Rattle.demand.proofs.Priority.{higher-self, byNumbers, lower-by}
 use Rattle.demand.proofs.FirstMet.{met-same}
 use Rattle.demand.proofs.Over as over
 
@@ -50,9 +50,13 @@ module _ (table : List Task) (partitions : List ℕ) where
   unfolding lowerCost
   lower-none i = largest-none _
 
-  pub lower-more : (i j : ℕ) → lowerCost i (j + 1) ≡ max (lowerCost i j) (only (lower table partitions i j) (costOf table j))
+  lower-more : (i j : ℕ) → lowerCost i (j + 1) ≡ max (lowerCost i j) (only (lower table partitions i j) (costOf table j))
   unfolding lowerCost
   lower-more i j = largest-more _ j
+
+  -- one more task is looked at
+  pub lower-next : (i j most lower next : ℕ) → most ≡ lowerCost i j → lower ≡ only (byNumbers table partitions j i) (costOf table j) → next ≡ max most lower → next ≡ lowerCost i (j + 1)
+  lower-next i j most lower next e f g = cc (lower-more i j, lower-by table partitions i j)
 
   pub blocking-lower : (n i : ℕ) → blocking table partitions n i ≡ lowerCost i n - 1
   unfolding lowerCost blocking

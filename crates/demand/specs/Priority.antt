@@ -23,6 +23,10 @@ inPartition partitions i j = eqb (getD partitions j 0) (getD partitions i 0)
 unfoldable pub higher : List Task → List ℕ → ℕ → ℕ → Bool
 higher table partitions i j = inPartition partitions i j && outranks (deadlineOf table j) j (deadlineOf table i) i
 
+-- the same by the numbers it looks at: partitions p and q, deadlines d and e of tasks i and j
+unfoldable pub higherBy : (p d i q e j : ℕ) → Bool
+higherBy p d i q e j = eqb q p && outranks e j d i
+
 -- j is a lower-priority member than i
 unfoldable pub lower : List Task → List ℕ → ℕ → ℕ → Bool
 lower table partitions i j = inPartition partitions i j && outranks (deadlineOf table i) i (deadlineOf table j) j

@@ -8,8 +8,6 @@ pub use members::cost_of;
 pub use members::larger;
 pub use members::pack_higher;
 pub use members::wide;
-pub use ranks::is_higher;
-pub use ranks::is_lower;
 pub use ranks::is_member;
 pub use ranks::rank;
 

@@ -3,10 +3,10 @@ use crate::ranks;
 use model::Order;
 use model::Task;
 ghost use mathlib.Core.Path.{_≡_};
-ghost use Prim.Native.Nat.{_≤_, _<_, max};
+ghost use Prim.Native.Nat.{_<_, max};
 ghost use Rattle.laws.specs.Sums.{only};
-ghost use Rattle.demand.specs.Priority.{lower};
-ghost use Rattle.demand.specs.Releases.{cost, costOf};
+ghost use Rattle.demand.specs.Priority.{higherBy};
+ghost use Rattle.demand.specs.Releases.{cost};
 ghost use Rattle.demand.specs.Test.{TaskSound, Sound, blocking as blockingOf};
 ghost use Rattle.demand.specs.Packed.{Packs};
 
@@ -30,19 +30,12 @@ pub fn cost_of(task: Task) -> u64
     wide(task.run)
 }
 
-// The cost of the other task if it is a lower-priority member, else 0.
-fn lower_cost(
-    table: [Task; Order::MOST_TASKS],
-    partitions: [u32; Order::MOST_TASKS],
-    tasks: usize,
-    task: usize,
-    other: usize,
-) -> u64
-    requires { ⌜ Sound table tasks × (task < tasks) × (other < tasks) ⌝ }
-    ensures { λ r. ⌜ r ≡ only (lower table partitions task other) (costOf table other) ⌝ }
+// The cost of the other task if it is a lower-priority member, else 0: then the task outranks it.
+fn lower_cost(home: u32, mine: u32, task: usize, there: u32, its: Task, other: usize) -> u64
+    requires { ⌜ TaskSound its ⌝ }
+    ensures { λ r. ⌜ r ≡ only (higherBy there (its .deadline) other home mine task) (cost its) ⌝ }
 {
-    if ranks::is_lower(table, partitions, task, other) {
-        let its = table[other];
+    if ranks::is_higher(there, its.deadline, other, home, mine, task) {
         return cost_of(its);
     }
     0
@@ -58,10 +51,15 @@ pub fn blocking(
     requires { ⌜ Sound table tasks × (task < tasks) ⌝ }
     ensures { λ r. ⌜ r ≡ blockingOf table partitions tasks task ⌝ }
 {
+    let mine = table[task];
+    let home = partitions[task];
     let mut most: u64 = 0;
     let mut other: usize = 0;
     while other < tasks {
-        most = larger(most, lower_cost(table, partitions, tasks, task, other));
+        let its = table[other];
+        let there = partitions[other];
+        let lower = lower_cost(home, mine.deadline, task, there, its, other);
+        most = larger(most, lower);
         other += 1;
     }
     if most == 0 {
@@ -86,13 +84,16 @@ pub fn pack_higher(
     requires { ⌜ Sound table tasks × (task < tasks) ⌝ }
     ensures { λ r. ⌜ Packs table partitions tasks task (r .periods) (r .costs) (r .count) ⌝ }
 {
+    let mine = table[task];
+    let home = partitions[task];
     let mut periods = [0u64; Order::MOST_TASKS];
     let mut costs = [0u64; Order::MOST_TASKS];
     let mut count: usize = 0;
     let mut other: usize = 0;
     while other < tasks {
-        if ranks::is_higher(table, partitions, task, other) {
-            let its = table[other];
+        let its = table[other];
+        let there = partitions[other];
+        if ranks::is_higher(home, mine.deadline, task, there, its.deadline, other) {
             periods[count] = wide(its.period);
             costs[count] = cost_of(its);
             count += 1;

@@ -3,15 +3,15 @@ use model::Order;
 use model::Task;
 ghost use mathlib.Core.Path.{_≡_};
 ghost use Prim.Native.Nat.{_≤_, _<_};
+ghost use lib.Dec.{eqb};
 ghost use Rattle.laws.specs.Sums.{only};
-ghost use Rattle.demand.specs.Priority.{inPartition, outranks as outranksOf, higher, lower, rank as rankOf};
+ghost use Rattle.demand.specs.Priority.{outranks as outranksOf, higherBy, rank as rankOf};
 
-// Whether the other task is in the task's partition.
-pub fn is_member(partitions: [u32; Order::MOST_TASKS], task: usize, other: usize) -> bool
-    requires { ⌜ (task < 32) × (other < 32) ⌝ }
-    ensures { λ r. ⌜ r ≡ inPartition partitions task other ⌝ }
+// Whether a task with partition number there is in the partition home.
+pub fn is_member(home: u32, there: u32) -> bool
+    ensures { λ r. ⌜ r ≡ eqb there home ⌝ }
 {
-    partitions[other] == partitions[task]
+    there == home
 }
 
 // Whether the task with deadline mine outranks the other with its: smaller deadline first, then the lower number.
@@ -27,35 +27,14 @@ fn outranks(mine: u32, task: usize, its: u32, other: usize) -> bool
     false
 }
 
-// Whether the other task is a higher-priority member of the task's partition.
-pub fn is_higher(
-    table: [Task; Order::MOST_TASKS],
-    partitions: [u32; Order::MOST_TASKS],
-    task: usize,
-    other: usize,
-) -> bool
-    requires { ⌜ (task < 32) × (other < 32) ⌝ }
-    ensures { λ r. ⌜ r ≡ higher table partitions task other ⌝ }
+// Whether the other task is a higher-priority member of the task's partition: theirs are there and home, their deadlines its and mine.
+pub fn is_higher(home: u32, mine: u32, task: usize, there: u32, its: u32, other: usize) -> bool
+    ensures { λ r. ⌜ r ≡ higherBy home mine task there its other ⌝ }
 {
-    if is_member(partitions, task, other) {
-        let mine = table[task];
-        let its = table[other];
-        return outranks(its.deadline, other, mine.deadline, task);
+    if is_member(home, there) {
+        return outranks(its, other, mine, task);
     }
     false
-}
-
-// Whether it is a lower-priority one: then the task outranks it.
-pub fn is_lower(
-    table: [Task; Order::MOST_TASKS],
-    partitions: [u32; Order::MOST_TASKS],
-    task: usize,
-    other: usize,
-) -> bool
-    requires { ⌜ (task < 32) × (other < 32) ⌝ }
-    ensures { λ r. ⌜ r ≡ lower table partitions task other ⌝ }
-{
-    is_higher(table, partitions, other, task)
 }
 
 fn count_of(counted: bool) -> u32
@@ -74,10 +53,15 @@ pub fn rank(
     requires { ⌜ (tasks ≤ 32) × (task < tasks) ⌝ }
     ensures { λ r. ⌜ r ≡ rankOf table partitions tasks task ⌝ }
 {
+    let mine = table[task];
+    let home = partitions[task];
     let mut count: u32 = 0;
     let mut other: usize = 0;
     while other < tasks {
-        count = count + count_of(is_higher(table, partitions, task, other));
+        let its = table[other];
+        let there = partitions[other];
+        let above = is_higher(home, mine.deadline, task, there, its.deadline, other);
+        count = count + count_of(above);
         other += 1;
     }
     count

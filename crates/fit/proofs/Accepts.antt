@@ -1,11 +1,14 @@
 -- What it says that a partition takes a task, and that none does.
 use mathlib.Core.Path.{_≡_, refl, sym, ap, _∙_, subst}
-use mathlib.Core.Bool.{Bool, true, false}
+use mathlib.Core.Bool.{Bool, true, false, not, _&&_}
 use mathlib.Core.List.{List}
 use Prim.Native.Nat.{ℕ, _<_}
-use lib.ListN.{set}
+use borrow.Author.Tests.{eqb-true}
+use lib.Dec.{eqb}
+use lib.ListN.{getD, set}
 use Rattle.laws.proofs.Every.{clash, every-at, every-all, every-stop}
 use Rattle.search.proofs.First.{IsFirst, Firstly, first-found, first-missing, first-says}
+use Rattle.demand.proofs.Priority.{in-self}
 use Rattle.demand.specs.Priority.{inPartition}
 use Rattle.demand.specs.Test.{verdict, doesPass}
 use Rattle.fit.specs.Kinds.{Task, Found, At, Nothing, Verdict, Passes, NoWindow, NoStart, Late, Placing}
@@ -27,6 +30,29 @@ module _ (table : List Task) (n : ℕ) (partitions : List ℕ) (i : ℕ) where
   pub stranger : (j : ℕ) → inPartition partitions i j ≡ false → memberPasses table n partitions i j ≡ true
   unfolding memberPasses
   stranger j e = rw (e, memberPasses)
+
+  -- another member, by the numbers that the code looks at
+  abbrev pub isAnother : ℕ → Bool
+  isAnother j = not (eqb j i) && eqb (getD partitions j 0) (getD partitions i 0)
+
+  pub another-passes : (j : ℕ) (r : Bool) → r ≡ isAnother j → r ≡ true → memberPasses table n partitions i j ≡ doesPass (verdict table partitions n j)
+  unfolding inPartition
+  another-passes j r e t = member-of j (go (eqb j i) (sym e ∙ t))
+    where
+      go : (b : Bool) → (not b && eqb (getD partitions j 0) (getD partitions i 0)) ≡ true → eqb (getD partitions j 0) (getD partitions i 0) ≡ true
+      go true h = clash h
+      go false h = h
+
+  -- the newcomer itself is known to pass
+  pub others-pass : (j : ℕ) (r : Bool) → r ≡ isAnother j → r ≡ false → doesPass (verdict table partitions n i) ≡ true → memberPasses table n partitions i j ≡ true
+  unfolding inPartition
+  others-pass j r e t mine = go (eqb j i) refl (sym e ∙ t)
+    where
+      go : (b : Bool) → eqb j i ≡ b → (not b && eqb (getD partitions j 0) (getD partitions i 0)) ≡ false → memberPasses table n partitions i j ≡ true
+      go true same h =
+          member-of j (ap (inPartition partitions i) (eqb-true j i same) ∙ in-self partitions i)
+          ∙ (ap (λ (x : ℕ). doesPass (verdict table partitions n x)) (eqb-true j i same) ∙ mine)
+      go false away h = stranger j h
 
   pub members-say : membersPass table n partitions i ≡ true → (j : ℕ) → j < n → inPartition partitions i j ≡ true → doesPass (verdict table partitions n j) ≡ true
   unfolding membersPass

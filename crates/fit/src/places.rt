@@ -3,30 +3,21 @@ use model::Order;
 use model::Task;
 use search::Found;
 ghost use mathlib.Core.Path.{_≡_};
-ghost use mathlib.Core.Bool.{true};
-ghost use Prim.Native.Nat.{_≤_, _<_};
+ghost use mathlib.Core.Bool.{not, _&&_};
+ghost use Prim.Native.Nat.{_<_};
+ghost use lib.Dec.{eqb};
 ghost use Rattle.search.specs.Smallest.{firstOf};
-ghost use Rattle.demand.specs.Test.{Sound, verdict, doesPass};
-ghost use Rattle.fit.specs.Steps.{memberPasses, membersPass, accepts as acceptsOf};
+ghost use Rattle.demand.specs.Test.{Sound};
+ghost use Rattle.fit.specs.Steps.{membersPass, accepts as acceptsOf};
 
-// Whether the other task passes, if it is a member; the newcomer itself is known to pass.
-fn member_passes(
-    table: [Task; Order::MOST_TASKS],
-    partitions: [u32; Order::MOST_TASKS],
-    tasks: usize,
-    task: usize,
-    other: usize,
-) -> bool
-    requires { ⌜ Sound table tasks × (task < tasks) × (other < tasks) × (doesPass (verdict table partitions tasks task) ≡ true) ⌝ }
-    ensures { λ r. ⌜ r ≡ memberPasses table tasks partitions task other ⌝ }
+// Whether the other task is another member of the task's partition home.
+fn is_another_member(home: u32, task: usize, there: u32, other: usize) -> bool
+    ensures { λ r. ⌜ r ≡ not (eqb other task) && eqb there home ⌝ }
 {
     if other == task {
-        return true;
+        return false;
     }
-    if !demand::is_member(partitions, task, other) {
-        return true;
-    }
-    verdict::passes(table, partitions, tasks, other)
+    demand::is_member(home, there)
 }
 
 // Whether the task and all other members of its partition pass: the newcomer first, and no further than to the first that fails.
@@ -42,9 +33,14 @@ fn members_pass(
     if !verdict::passes(table, partitions, tasks, task) {
         return false;
     }
+    let home = partitions[task];
     let mut other: usize = 0;
     while other < tasks {
-        if !member_passes(table, partitions, tasks, task, other) {
+        if !is_another_member(home, task, partitions[other], other) {
+            other += 1;
+            continue;
+        }
+        if !verdict::passes(table, partitions, tasks, other) {
             return false;
         }
         other += 1;

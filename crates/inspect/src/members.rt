@@ -5,38 +5,32 @@ use model::Build;
 use model::Order;
 use model::Refusal;
 ghost use mathlib.Core.Path.{_≡_};
-ghost use Prim.Native.Nat.{_≤_, _<_};
+ghost use Prim.Native.Nat.{_≤_};
 ghost use Rattle.model.specs.Rules.{firstBroken};
 ghost use Rattle.demand.specs.Test.{Sound};
-ghost use Rattle.inspect.specs.Rules.{partitionsOf, wideEnough, widthRules, rankRight, rankRules, verdictRules, taskTestRules, testRules};
+ghost use Rattle.inspect.specs.Rules.{partitionsOf, widthRules, rankRules, verdictRules, testRules};
 
-fn wide_enough(order: Order, build: Build, task: usize) -> bool
-    requires { ⌜ (build .partitions ≤ 32) × (task < 32) ⌝ }
-    ensures { λ r. ⌜ r ≡ wideEnough order build task ⌝ }
-{
-    let members = build.members;
-    let member = members[task];
-    if member.partition < build.partitions {
-        let partition = member.partition as usize;
-        let places = build.places;
-        let place = places[partition];
-        let table = order.table;
-        let mine = table[task];
-        return mine.width <= place.volume;
-    }
-    false
-}
-
-// 25 of all tasks.
+// 25 of all tasks: the partition is there, and as wide as the task.
 pub fn judge_widths(order: Order, build: Build) -> Answer
     requires { ⌜ (build .partitions ≤ 32) × (order .tasks ≤ 32) ⌝ }
     ensures { λ r. ⌜ r ≡ firstBroken 0 (widthRules order build (order .tasks)) ⌝ }
 {
+    let table = order.table;
+    let places = build.places;
+    let members = build.members;
     let tasks = order.tasks as usize;
     let mut i: usize = 0;
     while i < tasks {
-        if !wide_enough(order, build, i) {
-            return Answer::Refused(Refusal::TaskPartition(i as u16));
+        let number = i as u16;
+        let member = members[i];
+        if build.partitions <= member.partition {
+            return Answer::Refused(Refusal::TaskPartition(number));
+        }
+        let partition = member.partition as usize;
+        let place = places[partition];
+        let mine = table[i];
+        if place.volume < mine.width {
+            return Answer::Refused(Refusal::TaskPartition(number));
         }
         i += 1;
     }
@@ -60,25 +54,18 @@ pub fn partitions_of(build: Build) -> [u32; Order::MOST_TASKS]
     numbers
 }
 
-fn rank_right(order: Order, build: Build, numbers: [u32; Order::MOST_TASKS], task: usize) -> bool
-    requires { ⌜ (order .tasks ≤ 32) × (task < order .tasks) × (numbers ≡ partitionsOf build) ⌝ }
-    ensures { λ r. ⌜ r ≡ rankRight order build task ⌝ }
-{
-    let members = build.members;
-    let member = members[task];
-    let table = order.table;
-    member.rank == demand::rank(table, numbers, order.tasks as usize, task)
-}
-
 // 26 of all tasks.
 pub fn judge_ranks(order: Order, build: Build, numbers: [u32; Order::MOST_TASKS]) -> Answer
     requires { ⌜ (order .tasks ≤ 32) × (numbers ≡ partitionsOf build) ⌝ }
     ensures { λ r. ⌜ r ≡ firstBroken 0 (rankRules order build (order .tasks)) ⌝ }
 {
+    let table = order.table;
+    let members = build.members;
     let tasks = order.tasks as usize;
     let mut i: usize = 0;
     while i < tasks {
-        if !rank_right(order, build, numbers, i) {
+        let member = members[i];
+        if member.rank != demand::rank(table, numbers, tasks, i) {
             return Answer::Refused(Refusal::Rank(i as u16));
         }
         i += 1;
@@ -103,27 +90,19 @@ fn judge_verdict(found: Verdict, recorded: u32, task: u16) -> Answer
     }
 }
 
-// 27 to 30 of one task.
-fn judge_test(order: Order, build: Build, numbers: [u32; Order::MOST_TASKS], task: usize) -> Answer
-    requires { ⌜ Sound (order .table) (order .tasks) × (task < order .tasks) × (numbers ≡ partitionsOf build) ⌝ }
-    ensures { λ r. ⌜ r ≡ firstBroken 0 (taskTestRules order build task) ⌝ }
-{
-    let table = order.table;
-    let members = build.members;
-    let member = members[task];
-    let found = verdict::verdict(table, numbers, order.tasks as usize, task);
-    judge_verdict(found, member.response, task as u16)
-}
-
 // Task by task 27 to 30.
 pub fn judge_tests(order: Order, build: Build, numbers: [u32; Order::MOST_TASKS]) -> Answer
     requires { ⌜ Sound (order .table) (order .tasks) × (numbers ≡ partitionsOf build) ⌝ }
     ensures { λ r. ⌜ r ≡ firstBroken 0 (testRules order build (order .tasks)) ⌝ }
 {
+    let table = order.table;
+    let members = build.members;
     let tasks = order.tasks as usize;
     let mut i: usize = 0;
     while i < tasks {
-        let judged = judge_test(order, build, numbers, i);
+        let member = members[i];
+        let found = verdict::verdict(table, numbers, tasks, i);
+        let judged = judge_verdict(found, member.response, i as u16);
         if let Answer::Refused(cause) = judged {
             return Answer::Refused(cause);
         }

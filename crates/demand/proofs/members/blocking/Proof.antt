@@ -2,22 +2,46 @@ use native.Mathlib.Nat.{le-antisymm}
 use native.Mathlib.Omega.{arith}
 use mathlib.Core.Path.{_≡_, sym, _∙_, ap}
 use Prim.Native.Nat.{ℕ, _≤_, _-_}
-use Rattle.demand.proofs.Table.{lowerCost, lower-none, lower-more, blocking-lower}
+use Rattle.demand.proofs.Table.{lowerCost, lower-none, lower-next, blocking-lower}
 use borrow.Author.Needs.{needs}
 use Rattle.demand.proofs.members.blocking.Statement.{statement}
 use Rattle.demand.proofs.members.blocking.Tie as tie
 
 abbrev Inv-loop : tie.InvT-loop
-Inv-loop table partitions tasks task most₀ other₀ most other = (other ≤ tasks) × (most ≡ lowerCost table partitions task other)
+Inv-loop tasks task table partitions mine home most₀ other₀ most other = (other ≤ tasks) × (most ≡ lowerCost table partitions task other)
 
 abbrev μ-loop : tie.MeasureT-loop
-μ-loop table partitions tasks task most₀ other₀ most other = tasks - other
+μ-loop tasks task table partitions mine home most₀ other₀ most other = tasks - other
+
+mul-mine : tie.Need-mul-mine Inv-loop μ-loop
+mul-mine c = search needs
+
+array-copy-out-mine : tie.Need-array-copy-out-mine Inv-loop μ-loop
+array-copy-out-mine c = search needs
+
+mul-home : tie.Need-mul-home Inv-loop μ-loop
+mul-home c = search needs
+
+array-read-home : tie.Need-array-read-home Inv-loop μ-loop
+array-read-home c = search needs
 
 loop-holds : tie.Need-loop-holds Inv-loop μ-loop
 loop-holds c = (omega arith, sym (lower-none _ _ _))
 
+mul-its : tie.Need-mul-its Inv-loop μ-loop
+mul-its c = search needs
+
+array-copy-out-its : tie.Need-array-copy-out-its Inv-loop μ-loop
+array-copy-out-its c = search needs
+
+mul-there : tie.Need-mul-there Inv-loop μ-loop
+mul-there c = search needs
+
+array-read-there : tie.Need-array-read-there Inv-loop μ-loop
+array-read-there c = search needs
+
 lower-cost-requires : tie.Need-lower-cost-requires Inv-loop μ-loop
-lower-cost-requires c κs = search needs
+lower-cost-requires c κs = c .before .before .before .before .pre .0 .each _ (c .before .loop-test .taken)
 
 larger-requires : tie.Need-larger-requires Inv-loop μ-loop
 larger-requires c κs = search needs
@@ -29,24 +53,24 @@ loop-less : tie.Need-loop-less Inv-loop μ-loop
 loop-less c = search needs
 
 loop-again : tie.Need-loop-again Inv-loop μ-loop
-loop-again c = let l = c .before .before .before .loop in
-    let a = c .before .before .before .before .args in
-    (omega arith, cc (lower-more (a .table) (a .partitions) (a .task) (l .other)))
+loop-again c = let l = c .before .before .before .before .loop in
+    let a = c .before .before .before .before .before .before .args in
+    (omega arith, lower-next (a .t1) (a .t2) (a .task) (l .other) (l .most) (c .before .lower-cost .result) (c .larger .result) (l .inv .1) (c .before .lower-cost .ensures) (c .larger .ensures))
 
 -- at the end the largest is that of all members
-all : (c : tie.After-loop Inv-loop μ-loop) → let a = c .before .before .args in c .before .loop .most ≡ lowerCost (a .table) (a .partitions) (a .task) (a .tasks)
+all : (c : tie.After-loop Inv-loop μ-loop) → let a = c .before .before .before .args in c .before .loop .most ≡ lowerCost (a .t1) (a .t2) (a .task) (a .tasks)
 all c =
-    let a = c .before .before .args in
-    c .before .loop .inv .1 ∙ ap (λ (k : ℕ). lowerCost (a .table) (a .partitions) (a .task) k) (le-antisymm (c .before .loop .inv .0) (c .loop-test .left))
+    let a = c .before .before .before .args in
+    c .before .loop .inv .1 ∙ ap (λ (k : ℕ). lowerCost (a .t1) (a .t2) (a .task) k) (le-antisymm (c .before .loop .inv .0) (c .loop-test .left))
 
 returns : tie.Need-returns Inv-loop μ-loop
-returns c = let a = c .before .before .before .args in omega (arith, all (c .before), blocking-lower (a .table) (a .partitions) (a .tasks) (a .task))
+returns c = let a = c .before .before .before .before .args in omega (arith, all (c .before), blocking-lower (a .t1) (a .t2) (a .tasks) (a .task))
 
 sub-result : tie.Need-sub-result Inv-loop μ-loop
 sub-result c = search needs
 
 returns-2 : tie.Need-returns-2 Inv-loop μ-loop
-returns-2 c = let a = c .before .before .before .args in omega (arith, all (c .before), blocking-lower (a .table) (a .partitions) (a .tasks) (a .task))
+returns-2 c = let a = c .before .before .before .before .args in omega (arith, all (c .before), blocking-lower (a .t1) (a .t2) (a .tasks) (a .task))
 
 pub blocking-spec : {M : Type 1} → statement M
 blocking-spec =
@@ -54,7 +78,15 @@ blocking-spec =
     (tie.spec
     Inv-loop
     μ-loop
+    mul-mine
+    array-copy-out-mine
+    mul-home
+    array-read-home
     loop-holds
+    mul-its
+    array-copy-out-its
+    mul-there
+    array-read-there
     lower-cost-requires
     larger-requires
     add-other

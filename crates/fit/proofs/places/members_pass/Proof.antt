@@ -1,4 +1,4 @@
-use Rattle.fit.proofs.Accepts.{member-of, members-not, members-all}
+use Rattle.fit.proofs.Accepts.{member-of, another-passes, others-pass, members-not, members-all}
 use Rattle.demand.proofs.Priority.{in-self}
 use borrow.Author.Count.{below-more}
 use borrow.Author.Tests.{not-true, not-false}
@@ -12,10 +12,10 @@ use Rattle.fit.proofs.places.members_pass.Statement.{statement}
 use Rattle.fit.proofs.places.members_pass.Tie as tie
 
 abbrev Inv-loop : tie.InvT-loop
-Inv-loop table partitions tasks task other₀ other = (other ≤ tasks) × ((j : ℕ) → j < other → memberPasses table tasks partitions task j ≡ true)
+Inv-loop table tasks task partitions home other₀ other = (other ≤ tasks) × ((j : ℕ) → j < other → memberPasses table tasks partitions task j ≡ true)
 
 abbrev μ-loop : tie.MeasureT-loop
-μ-loop table partitions tasks task other₀ other = tasks - other
+μ-loop table tasks task partitions home other₀ other = tasks - other
 
 passes-requires : tie.Need-passes-requires Inv-loop μ-loop
 passes-requires c κs = search needs
@@ -23,20 +23,25 @@ passes-requires c κs = search needs
 returns : tie.Need-returns Inv-loop μ-loop
 returns c =
     let a = c .before .before .args in
-    sym (members-not (a .table) (a .tasks) (a .partitions) (a .task) (a .task) (c .before .before .pre .1) (member-of (a .table) (a .tasks) (a .partitions) (a .task) (a .task) (in-self (a .partitions) (a .task)) ∙ (sym (c .before .passes .ensures) ∙ not-true _ (c .if1 .taken))))
+    sym (members-not (a .table) (a .tasks) (a .t2) (a .task) (a .task) (c .before .before .pre .1) (member-of (a .table) (a .tasks) (a .t2) (a .task) (a .task) (in-self (a .t2) (a .task)) ∙ (sym (c .before .passes .ensures) ∙ not-true _ (c .if1 .taken))))
+
+mul-home : tie.Need-mul-home Inv-loop μ-loop
+mul-home c = search needs
+
+array-read-home : tie.Need-array-read-home Inv-loop μ-loop
+array-read-home c = search needs
 
 loop-holds : tie.Need-loop-holds Inv-loop μ-loop
 loop-holds c = (omega arith, λ j l. absurd (omega arith))
 
-member-passes-requires : tie.Need-member-passes-requires Inv-loop μ-loop
-member-passes-requires c κs =
-    let s = c .before .before .before .before in
-    (s .pre .0, s .pre .1, c .loop-test .taken, sym (c .before .before .before .passes .ensures) ∙ not-false _ (c .before .before .if1 .left))
+mul-is-another-member : tie.Need-mul-is-another-member Inv-loop μ-loop
+mul-is-another-member c = search needs
 
-returns-2 : tie.Need-returns-2 Inv-loop μ-loop
-returns-2 c =
-    let a = c .before .before .before .before .before .before .args in
-    sym (members-not (a .table) (a .tasks) (a .partitions) (a .task) (c .before .before .before .loop .other) (c .before .before .loop-test .taken) (sym (c .before .member-passes .ensures) ∙ not-true _ (c .if2 .taken)))
+array-read-is-another-member : tie.Need-array-read-is-another-member Inv-loop μ-loop
+array-read-is-another-member c = search needs
+
+is-another-member-requires : tie.Need-is-another-member-requires Inv-loop μ-loop
+is-another-member-requires c κs = search needs
 
 add-other : tie.Need-add-other Inv-loop μ-loop
 add-other c = search needs
@@ -46,14 +51,39 @@ loop-less c = search needs
 
 loop-again : tie.Need-loop-again Inv-loop μ-loop
 loop-again c =
+    let f = c .before .before .before .before in
+    let a = f .before .before .args in
     let l = c .before .before .before .loop in
-    (omega arith, below-more _ _ (l .inv .1) (sym (c .before .member-passes .ensures) ∙ not-false _ (c .if2 .left)))
+    (omega arith, below-more _ _ (l .inv .1) (others-pass (a .table) (a .tasks) (a .t2) (a .task) (l .other) _ (c .before .is-another-member .ensures) (not-true _ (c .if2 .taken)) (sym (f .before .passes .ensures) ∙ not-false _ (f .if1 .left))))
+
+passes-requires-2 : tie.Need-passes-requires-2 Inv-loop μ-loop
+passes-requires-2 c κs = search needs
+
+returns-2 : tie.Need-returns-2 Inv-loop μ-loop
+returns-2 c =
+    let m = c .before .before .before in
+    let a = m .before .before .before .before .before .args in
+    let j = m .before .before .loop .other in
+    sym (members-not (a .table) (a .tasks) (a .t2) (a .task) j (m .before .loop-test .taken) (another-passes (a .table) (a .tasks) (a .t2) (a .task) j _ (m .is-another-member .ensures) (not-false _ (c .before .before .if2 .left)) ∙ (sym (c .before .passes2 .ensures) ∙ not-true _ (c .if3 .taken))))
+
+add-other-2 : tie.Need-add-other-2 Inv-loop μ-loop
+add-other-2 c = search needs
+
+loop-less-2 : tie.Need-loop-less-2 Inv-loop μ-loop
+loop-less-2 c = search needs
+
+loop-again-2 : tie.Need-loop-again-2 Inv-loop μ-loop
+loop-again-2 c =
+    let m = c .before .before .before in
+    let a = m .before .before .before .before .before .args in
+    let l = m .before .before .loop in
+    (omega arith, below-more _ _ (l .inv .1) (another-passes (a .table) (a .tasks) (a .t2) (a .task) (l .other) _ (m .is-another-member .ensures) (not-false _ (c .before .before .if2 .left)) ∙ (sym (c .before .passes2 .ensures) ∙ not-false _ (c .if3 .left))))
 
 returns-3 : tie.Need-returns-3 Inv-loop μ-loop
 returns-3 c =
     let a = c .before .before .before .before .args in
     let l = c .before .loop in
-    sym (members-all (a .table) (a .tasks) (a .partitions) (a .task) (λ j m. l .inv .1 j (omega arith)))
+    sym (members-all (a .table) (a .tasks) (a .t2) (a .task) (λ j m. l .inv .1 j (omega arith)))
 
 pub members-pass-spec : {M : Type 1} → statement M
 members-pass-spec =
@@ -63,10 +93,18 @@ members-pass-spec =
     μ-loop
     passes-requires
     returns
+    mul-home
+    array-read-home
     loop-holds
-    member-passes-requires
-    returns-2
+    mul-is-another-member
+    array-read-is-another-member
+    is-another-member-requires
     add-other
     loop-less
     loop-again
+    passes-requires-2
+    returns-2
+    add-other-2
+    loop-less-2
+    loop-again-2
     returns-3)
