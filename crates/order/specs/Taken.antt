@@ -1,0 +1,26 @@
+-- "A reader that holds the order's bytes takes its fields front to back": what each record taken holds, and that the next one begins where it ends.
+use Prim.Native.Nat.{ℕ, _+_}
+use mathlib.Core.Path.{_≡_}
+use mathlib.Core.List.{List}
+use Rattle.laws.specs.Joined.{filled}
+use Rattle.model.specs.declared.answer.Answer.the-variants.{Done}
+use Rattle.model.specs.Limits.{mostTasks, zeroTask}
+use Rattle.model.specs.Rules.{firstBroken}
+use Rattle.order.specs.declared.HeaderTaken.{HeaderTaken}
+use Rattle.order.specs.declared.TaskTaken.{TaskTaken}
+use Rattle.order.specs.declared.TableTaken.{TableTaken}
+use Rattle.order.specs.Order.{headerOf, recordAt, taskAt, taskSpareAt, spareRules}
+
+-- the header, and then the first task's record begins
+abbrev pub TakesHeader : List ℕ → HeaderTaken → Type 0
+TakesHeader s taken = (taken .header ≡ headerOf s) × (taken .next ≡ recordAt 0)
+
+-- where a task's record begins: the task, its spare bits, and then the next task's record begins
+abbrev pub TakesTask : List ℕ → ℕ → TaskTaken → Type 0
+TakesTask s at taken = (i : ℕ) → at ≡ recordAt i → (taken .task ≡ taskAt s i) × (taken .spare ≡ taskSpareAt s i) × (taken .next ≡ recordAt (i + 1))
+
+-- 6 of the tasks, and the table where it holds
+abbrev pub TakesTable : List ℕ → ℕ → TableTaken → Type 0
+TakesTable s tasks taken =
+    (taken .spares ≡ firstBroken 0 (spareRules s tasks))
+    × ((count : ℕ) → taken .spares ≡ Done count → taken .table ≡ filled (taskAt s) zeroTask mostTasks tasks)
