@@ -1,8 +1,10 @@
--- "A reader that holds the order's bytes takes its fields front to back": what each record taken holds, and that the next one begins where it ends.
+-- "A reader that holds the order's bytes takes its fields front to back": what each field and each record taken holds, and that the next one begins where it ends.
 use Prim.Native.Nat.{ℕ, _+_}
 use mathlib.Core.Path.{_≡_}
 use mathlib.Core.List.{List}
 use Rattle.laws.specs.Joined.{filled}
+use Rattle.bits.specs.Field.{field}
+use Rattle.bits.specs.declared.Taken.{Taken}
 use Rattle.model.specs.declared.answer.Answer.the-variants.{Done}
 use Rattle.model.specs.Limits.{mostTasks, zeroTask}
 use Rattle.model.specs.Rules.{firstBroken}
@@ -10,6 +12,10 @@ use Rattle.order.specs.declared.HeaderTaken.{HeaderTaken}
 use Rattle.order.specs.declared.TaskTaken.{TaskTaken}
 use Rattle.order.specs.declared.TableTaken.{TableTaken}
 use Rattle.order.specs.Order.{headerOf, recordAt, taskAt, taskSpareAt, spareRules}
+
+-- a field, and then the next one begins
+abbrev pub TakesField : List ℕ → ℕ → ℕ → Taken → Type 0
+TakesField s at width taken = (taken .value ≡ field s at width) × (taken .next .at ≡ at + width)
 
 -- the header, and then the first task's record begins
 abbrev pub TakesHeader : List ℕ → HeaderTaken → Type 0

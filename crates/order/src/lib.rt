@@ -61,7 +61,7 @@ pub fn read_header(order: &[u8]) -> HeaderTaken
 
 // The record of a task, front to back.
 fn read_task(order: &[u8], at: usize) -> TaskTaken
-    requires { ⌜ at ≤ 500_000 ⌝ }
+    requires { ⌜ at ≤ recordAt 32 ⌝ }
     ensures { λ r. ⌜ TakesTask (now (order .entry)) at r ⌝ }
 {
     let width = take_field(order, at, 7);

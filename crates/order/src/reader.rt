@@ -1,9 +1,8 @@
 // "A reader that holds the order's bytes takes its fields front to back."
 use bits::Cursor;
 use bits::Taken;
-ghost use mathlib.Core.Path.{_≡_};
-ghost use Prim.Native.Nat.{_+_, _≤_};
-ghost use Rattle.bits.specs.Field.{field};
+ghost use Prim.Native.Nat.{_≤_};
+ghost use Rattle.order.specs.Taken.{TakesField};
 
 // The order's bytes, and the bit at which its next field begins.
 pub struct OrderReader<'a> {
@@ -12,9 +11,9 @@ pub struct OrderReader<'a> {
 }
 
 // The work, on the slice and the number.
-pub fn field_at(order: &[u8], at: usize, width: usize) -> Taken
+fn field_at(order: &[u8], at: usize, width: usize) -> Taken
     requires { ⌜ (at ≤ 1_000_000) × (width ≤ 32) ⌝ }
-    ensures { λ r. ⌜ (r .value ≡ field (now (order .entry)) at width) × (r .next .at ≡ at + width) ⌝ }
+    ensures { λ r. ⌜ TakesField (now (order .entry)) at width r ⌝ }
 {
     let cursor = Cursor { at };
     cursor.take(order, width)
@@ -24,7 +23,7 @@ impl<'a> OrderReader<'a> {
     // The field of so many bits, and where the next one begins.
     pub fn take(self, width: usize) -> Taken
         requires { ⌜ (self .at ≤ 1_000_000) × (width ≤ 32) ⌝ }
-        ensures { λ r. ⌜ (r .value ≡ field (now (self .entry .order)) (self .entry .at) width) × (r .next .at ≡ self .entry .at + width) ⌝ }
+        ensures { λ r. ⌜ TakesField (now (self .entry .order)) (self .entry .at) width r ⌝ }
     {
         field_at(self.order, self.at, width)
     }
@@ -33,7 +32,7 @@ impl<'a> OrderReader<'a> {
 // A reader that stands at a bit of an order takes a field: whoever calls this needs no proof by hand.
 pub fn take_field(order: &[u8], at: usize, width: usize) -> Taken
     requires { ⌜ (at ≤ 1_000_000) × (width ≤ 32) ⌝ }
-    ensures { λ r. ⌜ (r .value ≡ field (now (order .entry)) at width) × (r .next .at ≡ at + width) ⌝ }
+    ensures { λ r. ⌜ TakesField (now (order .entry)) at width r ⌝ }
 {
     OrderReader { order, at }.take(width)
 }

@@ -37,9 +37,10 @@ returns : tie.Need-returns Inv-loop μ-loop
 returns c =
     let w = c .before .before .before .before in
     let a = w .before .before .before .args in
-    let taken = c .before .before .read-task .ensures (w .loop .i) (w .loop .inv .1) in
-    (sym (spare-stop (now (a .order)) (a .tasks) (w .loop .i) (c .before .before .before .loop-test .taken) (w .loop .inv .2) (λ e. c .if1 .taken (taken .1 ∙ e))),
-    λ count e. let clash : _≡_ {A = ℕ} 0 1 = cc in absurd (omega arith))
+    let taken = c .before .before .read-task .ensures (w .loop .i) (w .loop .inv .1) in (
+      sym (spare-stop (now (a .order)) (a .tasks) (w .loop .i) (c .before .before .before .loop-test .taken) (w .loop .inv .2) (λ e. c .if1 .taken (taken .1 ∙ e))),
+      λ count e. let clash : _≡_ {A = ℕ} 0 1 = cc in absurd (omega arith),
+    )
 
 mul-table : tie.Need-mul-table Inv-loop μ-loop
 mul-table c = search needs

@@ -1,7 +1,7 @@
 -- A walk by hand: the reader is taken apart, and `field_at` is called on the slice and the number.
 -- The struct is Copy: what it owns is had twice, one copy is kept for the exit, and what the order owns goes to the callee.
 use mathlib.Core.Path.{_≡_, refl}
-use Prim.Native.Nat.{ℕ, _+_, _≤_, _<_, _^_}
+use Prim.Native.Nat.{ℕ, _≤_, _<_, _^_}
 use mathlib.Core.List.{[], _∷_}
 use lib.Dec.{T as Holds}
 use lib.ListN.{length}
@@ -41,10 +41,10 @@ use denote.Triple.Table.{entered, cited}
 use denote.Triple.Walked.{says, needs, Stays, stay-none, walkOf, goes-none, Walks, ends-at, walked, walk-meets}
 use denote.Exit.{yes}
 use denote.Triple.Clauses.{ensured, lasts}
-use Rattle.bits.specs.Field.{field}
 use Rattle.bits.specs.declared.Taken.{Taken}
 use Rattle.bits.proofs.Taken as S
 use Rattle.bits.proofs.Taken.Laws as S′
+use Rattle.order.specs.Taken.{TakesField}
 use Rattle.order.specs.declared.reader.OrderReader.{OrderReader}
 use Rattle.order.proofs.reader.OrderReader as T
 use Rattle.order.proofs.reader.OrderReader.Laws as T′
@@ -69,7 +69,7 @@ abbrev Asks : OrderReader → ℕ → Type 0
 Asks d w = (d .at ≤ 1_000_000) × (w ≤ 32)
 
 abbrev Says : OrderReader → ℕ → Taken → Type 0
-Says d w r = (r .value ≡ field (now (d .order)) (d .at) w) × (r .next .at ≡ d .at + w)
+Says d w r = TakesField (now (d .order)) (d .at) w r
 
 -- the contract that the proof cites
 abbrev FieldAt : {M : Type 1} (𝓤 : URA M) (H : Heap 𝓤) (A : Atoms 𝓤) (mem : Memory → SProp 𝓤) (run : Routine → Fun 𝓤) → Contract 𝓤
