@@ -9,8 +9,9 @@ use model::Task;
 use reader::take_field;
 ghost use mathlib.Core.Path.{_≡_};
 ghost use Prim.Native.Nat.{_≤_, _<_};
+ghost use Rattle.model.specs.Limits.{orderLength};
 ghost use Rattle.model.specs.Rules.{firstBroken};
-ghost use Rattle.order.specs.Order.{recordAt, headerRules, refusedReading, Reads};
+ghost use Rattle.order.specs.Order.{headerRules, refusedReading, Reads};
 ghost use Rattle.order.specs.Taken.{TakesHeader, TakesTask, TakesTable};
 
 // The header's fields.
@@ -21,13 +22,13 @@ pub struct Header {
     pub spare: u32,
 }
 
-// The header taken, and where the first task's record begins.
+// The header taken, and the byte at which the first task's record begins.
 pub struct HeaderTaken {
     pub header: Header,
     pub next: usize,
 }
 
-// A task's record taken, and where the next one begins.
+// A task's record taken, and the byte at which the next one begins.
 pub struct TaskTaken {
     pub task: Task,
     pub spare: u32,
@@ -55,16 +56,16 @@ pub fn read_header(order: &[u8]) -> HeaderTaken
             tasks: tasks.value,
             spare: spare.value,
         },
-        next: spare.next.at,
+        next: spare.next.at / 8,
     }
 }
 
-// The record of a task, front to back.
-fn read_task(order: &[u8], at: usize) -> TaskTaken
-    requires { ⌜ at ≤ recordAt 32 ⌝ }
-    ensures { λ r. ⌜ TakesTask (now (order .entry)) at r ⌝ }
+// The record of a task, front to back from a byte on.
+fn read_task(order: &[u8], from: usize) -> TaskTaken
+    requires { ⌜ from ≤ orderLength 32 ⌝ }
+    ensures { λ r. ⌜ TakesTask (now (order .entry)) from r ⌝ }
 {
-    let width = take_field(order, at, 7);
+    let width = take_field(order, 8 * from, 7);
     let period = take_field(order, width.next.at, 20);
     let deadline = take_field(order, period.next.at, 20);
     let run = take_field(order, deadline.next.at, 20);
@@ -77,20 +78,20 @@ fn read_task(order: &[u8], at: usize) -> TaskTaken
             run: run.value,
         },
         spare: spare.value,
-        next: spare.next.at,
+        next: spare.next.at / 8,
     }
 }
 
 // The records of so many tasks, front to back: 6 of the tasks, the lowest first, and the table, zero past them.
 fn read_table(order: &[u8], from: usize, tasks: usize) -> TableTaken
-    requires { ⌜ (from ≡ recordAt 0) × (tasks ≤ 32) ⌝ }
+    requires { ⌜ (from ≡ orderLength 0) × (tasks ≤ 32) ⌝ }
     ensures { λ r. ⌜ TakesTable (now (order .entry)) tasks r ⌝ }
 {
     let mut table = [Task::zero(); Order::MOST_TASKS];
-    let mut at = from;
+    let mut next = from;
     let mut i: usize = 0;
     while i < tasks {
-        let taken = read_task(order, at);
+        let taken = read_task(order, next);
         if taken.spare != 0 {
             return TableTaken {
                 spares: Answer::Refused(Refusal::TaskSpare(i as u16)),
@@ -99,7 +100,7 @@ fn read_table(order: &[u8], from: usize, tasks: usize) -> TableTaken
         }
         let task = taken.task;
         table[i] = task;
-        at = taken.next;
+        next = taken.next;
         i += 1;
     }
     TableTaken {

@@ -7,19 +7,19 @@ use native.Mathlib.Omega.{arith}
 use denote.Ref.{now}
 use Rattle.laws.specs.Joined.{filled}
 use Rattle.laws.proofs.Joined.{filled-none, filled-more}
-use Rattle.model.specs.Limits.{zeroTask}
+use Rattle.model.specs.Limits.{orderLength, zeroTask}
 use Rattle.model.specs.Rules.{allHold}
 use Rattle.model.proofs.Rules.{hold-done}
-use Rattle.order.specs.Order.{recordAt, taskAt, spareRules}
+use Rattle.order.specs.Order.{taskAt, spareRules}
 use Rattle.order.proofs.Rules.{spare-none, spare-more, spare-stop}
 use Rattle.order.proofs.read_table.Statement.{statement}
 use Rattle.order.proofs.read_table.Tie as tie
 
 abbrev Inv-loop : tie.InvT-loop
-Inv-loop order from tasks table₀ at₀ i₀ table at i = (i ≤ tasks) × (at ≡ recordAt i) × allHold (spareRules order i) × (table ≡ filled (taskAt order) zeroTask 32 i)
+Inv-loop order from tasks table₀ next₀ i₀ table next i = (i ≤ tasks) × (next ≡ orderLength i) × allHold (spareRules order i) × (table ≡ filled (taskAt order) zeroTask 32 i)
 
 abbrev μ-loop : tie.MeasureT-loop
-μ-loop order from tasks table₀ at₀ i₀ table at i = tasks - i
+μ-loop order from tasks table₀ next₀ i₀ table next i = tasks - i
 
 zero-requires : tie.Need-zero-requires Inv-loop μ-loop
 zero-requires c κs = search needs
