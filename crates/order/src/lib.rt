@@ -1,18 +1,18 @@
 // The order's reader: from bytes to M, n and the table, or the first refusal.
-use bits::Cursor;
+mod reader;
+
 use model::Answer;
 use model::Order;
 use model::Reading;
 use model::Refusal;
 use model::Task;
+use reader::take_field;
 ghost use mathlib.Core.Path.{_≡_};
-ghost use Prim.Native.Nat.{_+_, _*_, _≤_, _<_};
-ghost use lib.ListN.{length};
-ghost use Rattle.laws.specs.Joined.{filled};
-ghost use Rattle.bits.specs.Field.{field};
-ghost use Rattle.model.specs.Limits.{zeroTask};
+ghost use Prim.Native.Nat.{_≤_, _<_};
+ghost use Rattle.model.specs.Limits.{orderLength};
 ghost use Rattle.model.specs.Rules.{firstBroken};
-ghost use Rattle.order.specs.Order.{recordAt, taskAt, taskSpareAt, headerOf, headerRules, spareRules, layoutRules, refusedReading, Reads};
+ghost use Rattle.order.specs.Order.{headerRules, refusedReading, Reads};
+ghost use Rattle.order.specs.Taken.{TakesHeader, TakesTask, TakesTable};
 
 // The header's fields.
 pub struct Header {
@@ -22,62 +22,91 @@ pub struct Header {
     pub spare: u32,
 }
 
+// The header taken, and the byte at which the first task's record begins.
+pub struct HeaderTaken {
+    pub header: Header,
+    pub next: usize,
+}
+
+// A task's record taken, and the byte at which the next one begins.
+pub struct TaskTaken {
+    pub task: Task,
+    pub spare: u32,
+    pub next: usize,
+}
+
+// The tasks' records taken: 6 of the tasks, and the table.
+pub struct TableTaken {
+    pub spares: Answer,
+    pub table: [Task; Order::MOST_TASKS],
+}
+
 // The header, front to back.
-pub fn read_header(order: &[u8]) -> Header
-    ensures { λ r. ⌜ r ≡ headerOf (now (order .entry)) ⌝ }
+pub fn read_header(order: &[u8]) -> HeaderTaken
+    ensures { λ r. ⌜ TakesHeader (now (order .entry)) r ⌝ }
 {
-    let start = Cursor { at: 0 };
-    let version = start.take(order, 4);
-    let after_version = version.next;
-    let processors = after_version.take(order, 7);
-    let after_processors = processors.next;
-    let tasks = after_processors.take(order, 6);
-    let after_tasks = tasks.next;
-    let spare = after_tasks.take(order, 7);
-    Header {
-        version: version.value,
-        processors: processors.value,
-        tasks: tasks.value,
+    let version = take_field(order, 0, 4);
+    let processors = take_field(order, version.next.at, 7);
+    let tasks = take_field(order, processors.next.at, 6);
+    let spare = take_field(order, tasks.next.at, 7);
+    HeaderTaken {
+        header: Header {
+            version: version.value,
+            processors: processors.value,
+            tasks: tasks.value,
+            spare: spare.value,
+        },
+        next: spare.next.at / 8,
+    }
+}
+
+// The record of a task, front to back from a byte on.
+fn read_task(order: &[u8], from: usize) -> TaskTaken
+    requires { ⌜ from ≤ orderLength 32 ⌝ }
+    ensures { λ r. ⌜ TakesTask (now (order .entry)) from r ⌝ }
+{
+    let width = take_field(order, 8 * from, 7);
+    let period = take_field(order, width.next.at, 20);
+    let deadline = take_field(order, period.next.at, 20);
+    let run = take_field(order, deadline.next.at, 20);
+    let spare = take_field(order, run.next.at, 5);
+    TaskTaken {
+        task: Task {
+            width: width.value,
+            period: period.value,
+            deadline: deadline.value,
+            run: run.value,
+        },
         spare: spare.value,
+        next: spare.next.at / 8,
     }
 }
 
-// The record of a task, front to back.
-fn read_task(order: &[u8], task: usize) -> Task
-    requires { ⌜ task < 64 ⌝ }
-    ensures { λ r. ⌜ r ≡ taskAt (now (order .entry)) task ⌝ }
-{
-    let start = Cursor {
-        at: 8 * (Order::HEADER_BYTES + Task::BYTES * task),
-    };
-    let width = start.take(order, 7);
-    let after_width = width.next;
-    let period = after_width.take(order, 20);
-    let after_period = period.next;
-    let deadline = after_period.take(order, 20);
-    let after_deadline = deadline.next;
-    let run = after_deadline.take(order, 20);
-    Task {
-        width: width.value,
-        period: period.value,
-        deadline: deadline.value,
-        run: run.value,
-    }
-}
-
-// The table of so many tasks, zero past them.
-fn read_table(order: &[u8], tasks: usize) -> [Task; Order::MOST_TASKS]
-    requires { ⌜ tasks ≤ 32 ⌝ }
-    ensures { λ r. ⌜ r ≡ filled (taskAt (now (order .entry))) zeroTask 32 tasks ⌝ }
+// The records of so many tasks, front to back: 6 of the tasks, the lowest first, and the table, zero past them.
+fn read_table(order: &[u8], from: usize, tasks: usize) -> TableTaken
+    requires { ⌜ (from ≡ orderLength 0) × (tasks ≤ 32) ⌝ }
+    ensures { λ r. ⌜ TakesTable (now (order .entry)) tasks r ⌝ }
 {
     let mut table = [Task::zero(); Order::MOST_TASKS];
+    let mut next = from;
     let mut i: usize = 0;
     while i < tasks {
-        let task = read_task(order, i);
+        let taken = read_task(order, next);
+        if taken.spare != 0 {
+            return TableTaken {
+                spares: Answer::Refused(Refusal::TaskSpare(i as u16)),
+                table,
+            };
+        }
+        let task = taken.task;
         table[i] = task;
+        next = taken.next;
         i += 1;
     }
-    table
+    TableTaken {
+        spares: Answer::Done(0),
+        table,
+    }
 }
 
 // 1 to 5, and 6 of the header.
@@ -106,37 +135,6 @@ fn judge_header(size: usize, header: Header) -> Answer
     Answer::Done(0)
 }
 
-// 6 of the tasks, the lowest first.
-fn judge_spares(order: &[u8], tasks: usize) -> Answer
-    requires { ⌜ tasks ≤ 32 ⌝ }
-    ensures { λ r. ⌜ r ≡ firstBroken 0 (spareRules (now (order .entry)) tasks) ⌝ }
-{
-    let mut i: usize = 0;
-    while i < tasks {
-        let spare = Cursor {
-            at: 8 * (Order::HEADER_BYTES + Task::BYTES * i) + 67,
-        };
-        let taken = spare.take(order, 5);
-        if taken.value != 0 {
-            return Answer::Refused(Refusal::TaskSpare(i as u16));
-        }
-        i += 1;
-    }
-    Answer::Done(0)
-}
-
-// 1 to 6, in turn.
-fn judge_layout(order: &[u8], header: Header) -> Answer
-    requires { ⌜ header ≡ headerOf (now order) ⌝ }
-    ensures { λ r. ⌜ r ≡ firstBroken 0 (layoutRules (now (order .entry))) ⌝ }
-{
-    let judged = judge_header(order.len(), header);
-    if let Answer::Refused(cause) = judged {
-        return Answer::Refused(cause);
-    }
-    judge_spares(order, header.tasks as usize)
-}
-
 // A refused reading has M, n and the table zero.
 fn refused(cause: Refusal) -> Reading
     ensures { λ r. ⌜ r ≡ refusedReading cause ⌝ }
@@ -151,15 +149,22 @@ fn refused(cause: Refusal) -> Reading
 pub fn read_order(order: &[u8]) -> Reading
     ensures { λ r. ⌜ Reads (now (order .entry)) r ⌝ }
 {
-    let header = read_header(order);
-    let layout = judge_layout(order, header);
+    let front = read_header(order);
+    let header = front.header;
+    let layout = judge_header(order.len(), header);
     if let Answer::Refused(cause) = layout {
         return refused(cause);
     }
+    let records = read_table(order, front.next, header.tasks as usize);
+    let spares = records.spares;
+    if let Answer::Refused(cause) = spares {
+        return refused(cause);
+    }
+    let table = records.table;
     let read = Order {
         processors: header.processors,
         tasks: header.tasks,
-        table: read_table(order, header.tasks as usize),
+        table,
     };
     let judged = read.judge();
     match judged {

@@ -1,31 +1,46 @@
 use borrow.Author.Needs.{needs}
 use lib.ListN.{replicate}
-use Prim.Native.Nat.{_≤_, _-_}
-use mathlib.Core.Path.{_≡_, ap, _∙_}
+use Prim.Native.Nat.{ℕ, _≤_, _-_}
+use mathlib.Core.Path.{_≡_, sym, ap, _∙_}
 use native.Mathlib.Nat.{le-antisymm}
 use native.Mathlib.Omega.{arith}
 use denote.Ref.{now}
 use Rattle.laws.specs.Joined.{filled}
 use Rattle.laws.proofs.Joined.{filled-none, filled-more}
-use Rattle.model.specs.Limits.{zeroTask}
-use Rattle.order.specs.Order.{taskAt}
+use Rattle.model.specs.Limits.{orderLength, zeroTask}
+use Rattle.model.specs.Rules.{allHold}
+use Rattle.model.proofs.Rules.{hold-done}
+use Rattle.order.specs.Order.{taskAt, spareRules}
+use Rattle.order.proofs.Rules.{spare-none, spare-more, spare-stop}
 use Rattle.order.proofs.read_table.Statement.{statement}
 use Rattle.order.proofs.read_table.Tie as tie
 
 abbrev Inv-loop : tie.InvT-loop
-Inv-loop order tasks table₀ i₀ table i = (i ≤ tasks) × (table ≡ filled (taskAt order) zeroTask 32 i)
+Inv-loop order from tasks table₀ next₀ i₀ table next i = (i ≤ tasks) × (next ≡ orderLength i) × allHold (spareRules order i) × (table ≡ filled (taskAt order) zeroTask 32 i)
 
 abbrev μ-loop : tie.MeasureT-loop
-μ-loop order tasks table₀ i₀ table i = tasks - i
+μ-loop order from tasks table₀ next₀ i₀ table next i = tasks - i
 
 zero-requires : tie.Need-zero-requires Inv-loop μ-loop
 zero-requires c κs = search needs
 
 loop-holds : tie.Need-loop-holds Inv-loop μ-loop
-loop-holds c = (search needs, ap (replicate 32) (c .zero .ensures) ∙ filled-none (taskAt (now (c .before .before .args .order))) zeroTask 32)
+loop-holds c = (search needs, c .before .before .pre .0, spare-none _, ap (replicate 32) (c .zero .ensures) ∙ filled-none (taskAt (now (c .before .before .args .order))) zeroTask 32)
 
 read-task-requires : tie.Need-read-task-requires Inv-loop μ-loop
 read-task-requires c κs = search needs
+
+cast-t11 : tie.Need-cast-t11 Inv-loop μ-loop
+cast-t11 c = search needs
+
+returns : tie.Need-returns Inv-loop μ-loop
+returns c =
+    let w = c .before .before .before .before in
+    let a = w .before .before .before .args in
+    let taken = c .before .before .read-task .ensures (w .loop .i) (w .loop .inv .1) in (
+      sym (spare-stop (now (a .order)) (a .tasks) (w .loop .i) (c .before .before .before .loop-test .taken) (w .loop .inv .2) (λ e. c .if1 .taken (taken .1 ∙ e))),
+      λ count e. let clash : _≡_ {A = ℕ} 0 1 = cc in absurd (omega arith),
+    )
 
 mul-table : tie.Need-mul-table Inv-loop μ-loop
 mul-table c = search needs
@@ -41,13 +56,17 @@ loop-less c = search needs
 
 loop-again : tie.Need-loop-again Inv-loop μ-loop
 loop-again c =
-    let f = taskAt (now (c .before .before .before .before .before .args .order)) in
-    (search needs, cc (filled-more f zeroTask 32 (c .before .before .loop .i) (omega arith)))
+    let w = c .before .before .before .before .before in
+    let s = now (w .before .before .before .args .order) in
+    let taken = c .before .before .before .read-task .ensures (w .loop .i) (w .loop .inv .1) in
+    (search needs, taken .2, spare-more s (w .loop .i) (w .loop .inv .2) (sym (taken .1) ∙ c .before .if1 .left), cc (filled-more (taskAt s) zeroTask 32 (w .loop .i) (omega arith)))
 
-returns : tie.Need-returns Inv-loop μ-loop
-returns c =
-    let all : c .before .loop .i ≡ c .before .before .before .before .args .tasks = le-antisymm (c .before .loop .inv .0) (c .loop-test .left) in
-    c .before .loop .inv .1 ∙ rw all
+returns-2 : tie.Need-returns-2 Inv-loop μ-loop
+returns-2 c =
+    let w = c .before in
+    let a = w .before .before .before .args in
+    let all : w .loop .i ≡ a .tasks = le-antisymm (w .loop .inv .0) (c .loop-test .left) in
+    (sym (hold-done 0 (spareRules (now (a .order)) (a .tasks)) (rw all at (w .loop .inv .2))), λ count e. w .loop .inv .3 ∙ rw all)
 
 pub read-table-spec : {M : Type 1} → statement M
 read-table-spec =
@@ -58,9 +77,11 @@ read-table-spec =
     zero-requires
     loop-holds
     read-task-requires
+    cast-t11
+    returns
     mul-table
     array-set-from-table
     add-i
     loop-less
     loop-again
-    returns)
+    returns-2)
