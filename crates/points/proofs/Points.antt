@@ -20,7 +20,7 @@ use Rattle.demand.specs.Releases.{cost, ceilDiv, releasesIn, releasesBy, jobs}
 use Rattle.demand.specs.Test.{firstMet, blocking, windowDemand, window, higherWork, startDemand, start, largestFound, response, worst, verdict}
 use Rattle.demand.proofs.FirstMet.{met-never}
 use Rattle.demand.proofs.Meaning.{verdict-none}
-use Rattle.fit.specs.Turns.{isUnplaced, comesBefore, nextTask}
+use Rattle.fit.specs.Turns.{isUnplaced, before, comesBefore, nextTask}
 use Rattle.fit.specs.Steps.{memberPasses, membersPass, accepts, lowestAccepting, opening, step, unlessRefused, steps, firstFit}
 use Rattle.fit.specs.Recorded.{memberOf, buildOf, recorded, fitted}
 use Rattle.points.specs.Sample.{sampleOn, sampleOrder, sampleBuildOn, sampleBuild, singleBuild}
@@ -38,7 +38,7 @@ unfolding window
 eight-window = met-never (windowDemand (seven 5) together 2 1) 1 (λ t a b. eight-asks t a)
 
 pub points : Points
-unfolding sum largest every joined smallest firstOf inPartition outranks higher lower rank cost ceilDiv releasesIn releasesBy jobs firstMet blocking windowDemand window higherWork startDemand start largestFound response worst verdict isUnplaced comesBefore nextTask memberPasses membersPass accepts lowestAccepting opening step unlessRefused steps firstFit memberOf buildOf recorded fitted readOrder firstBroken orderRules layoutRules headerRules spareRules rangeRules orderAt headerOf taskAt taskSpareAt field bitAt orderBytes recordsOf buildBytes recordBytes partitionBytes memberBytes bytesOf packed widthOf numberOf causeNumber causePlace
+unfolding sum largest every joined smallest firstOf inPartition outranks higher lower rank cost ceilDiv releasesIn releasesBy jobs firstMet blocking windowDemand window higherWork startDemand start largestFound response worst verdict isUnplaced before comesBefore nextTask memberPasses membersPass accepts lowestAccepting opening step unlessRefused steps firstFit memberOf buildOf recorded fitted readOrder firstBroken orderRules layoutRules headerRules spareRules rangeRules orderAt headerOf taskAt taskSpareAt field bitAt orderBytes recordsOf buildBytes recordBytes partitionBytes memberBytes bytesOf packed widthOf numberOf causeNumber causePlace
 points =
     record {
       p1 = record { order-bytes = refl; build-bytes = refl; gives = order-accepted _ _ refl (sampleBuildOn 4) refl };
