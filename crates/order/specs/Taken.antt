@@ -5,28 +5,29 @@ use mathlib.Core.List.{List}
 use Rattle.laws.specs.Joined.{filled}
 use Rattle.bits.specs.Field.{field}
 use Rattle.bits.specs.declared.Taken.{Taken}
+use Rattle.bits.specs.Packed.{widthOf}
+use Rattle.model.specs.declared.order.Task.{Task}
 use Rattle.model.specs.declared.answer.Answer.the-variants.{Done}
-use Rattle.model.specs.Limits.{mostTasks, orderLength, zeroTask}
+use Rattle.model.specs.Limits.{mostTasks, zeroTask}
 use Rattle.model.specs.Rules.{firstBroken}
-use Rattle.order.specs.declared.HeaderTaken.{HeaderTaken}
 use Rattle.order.specs.declared.TaskTaken.{TaskTaken}
 use Rattle.order.specs.declared.TableTaken.{TableTaken}
-use Rattle.order.specs.Order.{headerOf, taskAt, taskSpareAt, spareRules}
+use Rattle.order.specs.Order.{headerSlots, taskSlots, recordAt, taskAt, taskSpareAt, spareRules}
 
 -- a field, and then the next one begins
 abbrev pub TakesField : List ℕ → ℕ → ℕ → Taken → Type 0
 TakesField s at width taken = (taken .value ≡ field s at width) × (taken .next .at ≡ at + width)
 
--- the header, and then the first task's record begins, at a whole byte
-abbrev pub TakesHeader : List ℕ → HeaderTaken → Type 0
-TakesHeader s taken = (taken .header ≡ headerOf s) × (taken .next ≡ orderLength 0)
-
 -- where a task's record begins: the task, its spare bits, and then the next task's record begins
 abbrev pub TakesTask : List ℕ → ℕ → TaskTaken → Type 0
-TakesTask s from taken = (i : ℕ) → from ≡ orderLength i → (taken .task ≡ taskAt s i) × (taken .spare ≡ taskSpareAt s i) × (taken .next ≡ orderLength (i + 1))
+TakesTask s at taken = (i : ℕ) → at ≡ recordAt i → (taken .task ≡ taskAt s i) × (taken .spare ≡ taskSpareAt s i) × (taken .next ≡ recordAt (i + 1))
 
 -- 6 of the tasks, and the table where it holds
 abbrev pub TakesTable : List ℕ → ℕ → TableTaken → Type 0
 TakesTable s tasks taken =
     (taken .spares ≡ firstBroken 0 (spareRules s tasks))
     × ((count : ℕ) → taken .spares ≡ Done count → taken .table ≡ filled (taskAt s) zeroTask mostTasks tasks)
+
+-- the first task's record begins where the header ends, and each next one where the one before ends
+abbrev pub FrontToBack : Type 0
+FrontToBack = (processors tasks i : ℕ) (task : Task) → (recordAt 0 ≡ widthOf (headerSlots processors tasks)) × (recordAt (i + 1) ≡ recordAt i + widthOf (taskSlots task))

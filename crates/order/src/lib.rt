@@ -9,10 +9,9 @@ use model::Task;
 use reader::take_field;
 ghost use mathlib.Core.Path.{_≡_};
 ghost use Prim.Native.Nat.{_≤_, _<_};
-ghost use Rattle.model.specs.Limits.{orderLength};
 ghost use Rattle.model.specs.Rules.{firstBroken};
-ghost use Rattle.order.specs.Order.{headerRules, refusedReading, Reads};
-ghost use Rattle.order.specs.Taken.{TakesHeader, TakesTask, TakesTable};
+ghost use Rattle.order.specs.Order.{recordAt, headerOf, headerRules, refusedReading, Reads};
+ghost use Rattle.order.specs.Taken.{TakesTask, TakesTable};
 
 // The header's fields.
 pub struct Header {
@@ -22,13 +21,7 @@ pub struct Header {
     pub spare: u32,
 }
 
-// The header taken, and the byte at which the first task's record begins.
-pub struct HeaderTaken {
-    pub header: Header,
-    pub next: usize,
-}
-
-// A task's record taken, and the byte at which the next one begins.
+// A task's record taken, and the bit at which the next one begins.
 pub struct TaskTaken {
     pub task: Task,
     pub spare: u32,
@@ -42,30 +35,27 @@ pub struct TableTaken {
 }
 
 // The header, front to back.
-pub fn read_header(order: &[u8]) -> HeaderTaken
-    ensures { λ r. ⌜ TakesHeader (now (order .entry)) r ⌝ }
+pub fn read_header(order: &[u8]) -> Header
+    ensures { λ r. ⌜ r ≡ headerOf (now (order .entry)) ⌝ }
 {
     let version = take_field(order, 0, 4);
     let processors = take_field(order, version.next.at, 7);
     let tasks = take_field(order, processors.next.at, 6);
     let spare = take_field(order, tasks.next.at, 7);
-    HeaderTaken {
-        header: Header {
-            version: version.value,
-            processors: processors.value,
-            tasks: tasks.value,
-            spare: spare.value,
-        },
-        next: spare.next.at / 8,
+    Header {
+        version: version.value,
+        processors: processors.value,
+        tasks: tasks.value,
+        spare: spare.value,
     }
 }
 
-// The record of a task, front to back from a byte on.
-fn read_task(order: &[u8], from: usize) -> TaskTaken
-    requires { ⌜ from ≤ orderLength 32 ⌝ }
-    ensures { λ r. ⌜ TakesTask (now (order .entry)) from r ⌝ }
+// The record of a task, front to back from a bit on.
+fn read_task(order: &[u8], at: usize) -> TaskTaken
+    requires { ⌜ at ≤ recordAt 32 ⌝ }
+    ensures { λ r. ⌜ TakesTask (now (order .entry)) at r ⌝ }
 {
-    let width = take_field(order, 8 * from, 7);
+    let width = take_field(order, at, 7);
     let period = take_field(order, width.next.at, 20);
     let deadline = take_field(order, period.next.at, 20);
     let run = take_field(order, deadline.next.at, 20);
@@ -78,20 +68,20 @@ fn read_task(order: &[u8], from: usize) -> TaskTaken
             run: run.value,
         },
         spare: spare.value,
-        next: spare.next.at / 8,
+        next: spare.next.at,
     }
 }
 
 // The records of so many tasks, front to back: 6 of the tasks, the lowest first, and the table, zero past them.
-fn read_table(order: &[u8], from: usize, tasks: usize) -> TableTaken
-    requires { ⌜ (from ≡ orderLength 0) × (tasks ≤ 32) ⌝ }
+fn read_table(order: &[u8], tasks: usize) -> TableTaken
+    requires { ⌜ tasks ≤ 32 ⌝ }
     ensures { λ r. ⌜ TakesTable (now (order .entry)) tasks r ⌝ }
 {
     let mut table = [Task::zero(); Order::MOST_TASKS];
-    let mut next = from;
+    let mut at = 8 * Order::HEADER_BYTES;
     let mut i: usize = 0;
     while i < tasks {
-        let taken = read_task(order, next);
+        let taken = read_task(order, at);
         if taken.spare != 0 {
             return TableTaken {
                 spares: Answer::Refused(Refusal::TaskSpare(i as u16)),
@@ -100,7 +90,7 @@ fn read_table(order: &[u8], from: usize, tasks: usize) -> TableTaken
         }
         let task = taken.task;
         table[i] = task;
-        next = taken.next;
+        at = taken.next;
         i += 1;
     }
     TableTaken {
@@ -149,13 +139,12 @@ fn refused(cause: Refusal) -> Reading
 pub fn read_order(order: &[u8]) -> Reading
     ensures { λ r. ⌜ Reads (now (order .entry)) r ⌝ }
 {
-    let front = read_header(order);
-    let header = front.header;
+    let header = read_header(order);
     let layout = judge_header(order.len(), header);
     if let Answer::Refused(cause) = layout {
         return refused(cause);
     }
-    let records = read_table(order, front.next, header.tasks as usize);
+    let records = read_table(order, header.tasks as usize);
     let spares = records.spares;
     if let Answer::Refused(cause) = spares {
         return refused(cause);

@@ -1,6 +1,6 @@
 use borrow.Author.Needs.{needs}
 use mathlib.Core.Path.{_≡_, ap, _∙_}
-use Prim.Native.Nat.{_+_, _/_}
+use Prim.Native.Nat.{_+_}
 use denote.Ref.{now}
 use Rattle.bits.specs.Field.{field}
 use Rattle.order.specs.Order.{headerOf}
@@ -21,8 +21,7 @@ take-field-requires-4 c κs = search needs
 
 returns : tie.Need-returns
 unfolding headerOf
-returns last =
-    let c = last .before in
+returns c =
     let s = now (c .before .before .before .before .before .args .order) in
     let one = c .before .before .before .take-field in
     let two = c .before .before .take-field2 in
@@ -33,7 +32,7 @@ returns last =
     let processors : two .result .value ≡ field s 4 7 = two .ensures .0 ∙ ap (λ x. field s x 7) at-two in
     let tasks : three .result .value ≡ field s 11 6 = three .ensures .0 ∙ ap (λ x. field s x 6) at-three in
     let spare : c .take-field4 .result .value ≡ field s 17 7 = c .take-field4 .ensures .0 ∙ ap (λ x. field s x 7) at-four in
-    (rw (one .ensures .0, processors, tasks, spare), ap (_/ 8) (c .take-field4 .ensures .1 ∙ ap (_+ 7) at-four))
+    rw (one .ensures .0, processors, tasks, spare)
 
 pub read-header-spec : {M : Type 1} → statement M
 read-header-spec =

@@ -20,13 +20,13 @@ use Rattle.order.proofs.read_order.Statement.{statement}
 use Rattle.order.proofs.read_order.Tie as tie
 
 abbrev S : tie.After-judge-header → List ℕ
-S w = now (w .before .before .before .before .args .order)
+S w = now (w .before .before .before .args .order)
 
 abbrev header : tie.After-judge-header → Header
-header w = w .before .before .read-header .result .header
+header w = w .before .read-header .result
 
 header-same : (w : tie.After-judge-header) → header w ≡ headerOf (S w)
-header-same w = w .before .before .read-header .ensures .0
+header-same w = w .before .read-header .ensures
 
 -- the header's judgement
 found : (w : tie.After-judge-header) → firstBroken 0 (headerRules (length (S w)) (headerOf (S w))) ≡ w .judge-header .result
@@ -68,7 +68,7 @@ read-header-requires : tie.Need-read-header-requires
 read-header-requires c κs = search needs
 
 judge-header-requires : tie.Need-judge-header-requires
-judge-header-requires c κs = omega (arith, tasks-small (now (c .before .before .before .args .order)), ap (λ (h : Header). h .tasks) (c .before .read-header .ensures .0))
+judge-header-requires c κs = omega (arith, tasks-small (now (c .before .before .args .order)), ap (λ (h : Header). h .tasks) (c .read-header .ensures))
 
 enum-known-layout : tie.Need-enum-known-layout
 enum-known-layout c = search needs
@@ -88,9 +88,7 @@ cast-read-table : tie.Need-cast-read-table
 cast-read-table c = search needs
 
 read-table-requires : tie.Need-read-table-requires
-read-table-requires c κs =
-    let w = c .before .before .before in
-    (w .before .before .read-header .ensures .1, tasks-few w (c .before .enum-told .given .1))
+read-table-requires c κs = tasks-few (c .before .before .before) (c .before .enum-told .given .1)
 
 enum-known-spares : tie.Need-enum-known-spares
 enum-known-spares c = search needs

@@ -7,31 +7,34 @@ use native.Mathlib.Omega.{arith}
 use denote.Ref.{now}
 use Rattle.laws.specs.Joined.{filled}
 use Rattle.laws.proofs.Joined.{filled-none, filled-more}
-use Rattle.model.specs.Limits.{orderLength, zeroTask}
+use Rattle.model.specs.Limits.{zeroTask}
 use Rattle.model.specs.Rules.{allHold}
 use Rattle.model.proofs.Rules.{hold-done}
-use Rattle.order.specs.Order.{taskAt, spareRules}
+use Rattle.order.specs.Order.{recordAt, taskAt, spareRules}
 use Rattle.order.proofs.Rules.{spare-none, spare-more, spare-stop}
 use Rattle.order.proofs.read_table.Statement.{statement}
 use Rattle.order.proofs.read_table.Tie as tie
 
 abbrev Inv-loop : tie.InvT-loop
-Inv-loop order from tasks table₀ next₀ i₀ table next i = (i ≤ tasks) × (next ≡ orderLength i) × allHold (spareRules order i) × (table ≡ filled (taskAt order) zeroTask 32 i)
+Inv-loop order tasks table₀ at₀ i₀ table at i = (i ≤ tasks) × (at ≡ recordAt i) × allHold (spareRules order i) × (table ≡ filled (taskAt order) zeroTask 32 i)
 
 abbrev μ-loop : tie.MeasureT-loop
-μ-loop order from tasks table₀ next₀ i₀ table next i = tasks - i
+μ-loop order tasks table₀ at₀ i₀ table at i = tasks - i
 
 zero-requires : tie.Need-zero-requires Inv-loop μ-loop
 zero-requires c κs = search needs
 
+mul-at : tie.Need-mul-at Inv-loop μ-loop
+mul-at c = search needs
+
 loop-holds : tie.Need-loop-holds Inv-loop μ-loop
-loop-holds c = (search needs, c .before .before .pre .0, spare-none _, ap (replicate 32) (c .zero .ensures) ∙ filled-none (taskAt (now (c .before .before .args .order))) zeroTask 32)
+loop-holds c = (search needs, search needs, spare-none _, ap (replicate 32) (c .zero .ensures) ∙ filled-none (taskAt (now (c .before .before .args .order))) zeroTask 32)
 
 read-task-requires : tie.Need-read-task-requires Inv-loop μ-loop
 read-task-requires c κs = search needs
 
-cast-t11 : tie.Need-cast-t11 Inv-loop μ-loop
-cast-t11 c = search needs
+cast-t10 : tie.Need-cast-t10 Inv-loop μ-loop
+cast-t10 c = search needs
 
 returns : tie.Need-returns Inv-loop μ-loop
 returns c =
@@ -75,9 +78,10 @@ read-table-spec =
     Inv-loop
     μ-loop
     zero-requires
+    mul-at
     loop-holds
     read-task-requires
-    cast-t11
+    cast-t10
     returns
     mul-table
     array-set-from-table

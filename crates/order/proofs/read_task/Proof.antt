@@ -1,15 +1,12 @@
 use borrow.Author.Needs.{needs}
 use mathlib.Core.Path.{_≡_, ap, _∙_}
-use Prim.Native.Nat.{_+_, _*_, _/_}
+use Prim.Native.Nat.{_+_}
 use native.Mathlib.Omega.{arith}
 use denote.Ref.{now}
 use Rattle.bits.specs.Field.{field}
 use Rattle.order.specs.Order.{recordAt, taskAt, taskSpareAt}
 use Rattle.order.proofs.read_task.Statement.{statement}
 use Rattle.order.proofs.read_task.Tie as tie
-
-mul-take-field : tie.Need-mul-take-field
-mul-take-field c = search needs
 
 take-field-requires : tie.Need-take-field-requires
 take-field-requires c κs = search needs
@@ -28,9 +25,7 @@ take-field-requires-5 c κs = search needs
 
 returns : tie.Need-returns
 unfolding taskAt taskSpareAt
-returns last i from =
-    let c = last .before in
-    let e = ap (8 *_) from in
+returns c i e =
     let s = now (c .before .before .before .before .before .before .args .order) in
     let one = c .before .before .before .before .take-field in
     let two = c .before .before .before .take-field2 in
@@ -45,13 +40,12 @@ returns last i from =
     let period : two .result .value ≡ field s (recordAt i + 7) 20 = two .ensures .0 ∙ ap (λ x. field s x 20) at-two in
     let deadline : three .result .value ≡ field s (recordAt i + 7 + 20) 20 = three .ensures .0 ∙ ap (λ x. field s x 20) at-three in
     let run : four .result .value ≡ field s (recordAt i + 7 + 20 + 20) 20 = four .ensures .0 ∙ ap (λ x. field s x 20) at-four in
-    (rw (width, period, deadline, run), five .ensures .0 ∙ ap (λ x. field s x 5) at-five, ap (_/ 8) (five .ensures .1 ∙ ap (_+ 5) at-five) ∙ omega arith)
+    (rw (width, period, deadline, run), five .ensures .0 ∙ ap (λ x. field s x 5) at-five, five .ensures .1 ∙ ap (_+ 5) at-five ∙ omega arith)
 
 pub read-task-spec : {M : Type 1} → statement M
 read-task-spec =
     tie.close
     (tie.spec
-    mul-take-field
     take-field-requires
     take-field-requires-2
     take-field-requires-3
