@@ -54,6 +54,16 @@ pub struct Outcome {
 }
 
 impl Outcome {
+    /// The bytes of the output, without the margins.
+    pub fn output_bytes(&self) -> &[u8] {
+        within(&self.bytes)
+    }
+
+    /// The words of the output, without the margins.
+    pub fn output_words(&self) -> &[u32] {
+        within(&self.words)
+    }
+
     /// The first cell, counted from the output's front, in which the memory differs.
     pub fn first_difference(&self, other: &Outcome) -> Option<isize> {
         let mut bytes = self.bytes.iter().zip(&other.bytes);
@@ -78,27 +88,32 @@ impl Case {
         }
     }
 
-    /// What a program makes of the case.
+    /// What a program makes of the case, over memory of which no cell is plain.
     pub fn outcome(&self, program: &impl Program) -> Outcome {
+        self.outcome_over(program, Random::word)
+    }
+
+    /// What a program makes of the case, over memory that is filled with such words.
+    pub fn outcome_over(&self, program: &impl Program, fill: fn(&mut Random) -> u64) -> Outcome {
         let (mut bytes, mut words) = (Vec::new(), Vec::new());
         let answer = match self {
             Case::Read { order } => {
-                words = sentinels(Order::NUMBERS, |word| word as u32);
+                words = memory(Order::NUMBERS, fill, |word| word as u32);
                 let (numbers, _) = words[MARGIN..].split_first_chunk_mut().unwrap();
                 program.read_order(order, numbers)
             }
             Case::Write { processors, columns, room } => {
-                bytes = sentinels(*room, |word| word as u8);
+                bytes = memory(*room, fill, |word| word as u8);
                 let columns = columns.each_ref().map(|column| &column[..]);
                 program.write_order(*processors, columns, inside(&mut bytes))
             }
             Case::Plan { order, room } => {
-                bytes = sentinels(*room, |word| word as u8);
+                bytes = memory(*room, fill, |word| word as u8);
                 program.plan(order, inside(&mut bytes))
             }
             Case::Check { order, build } => program.check(order, build),
             Case::Run { order, build, script, room } => {
-                words = sentinels(*room, |word| word as u32);
+                words = memory(*room, fill, |word| word as u32);
                 program.run(order, build, script, inside(&mut words))
             }
         };
@@ -120,10 +135,11 @@ impl Case {
             }
         };
         let Answer { number, place, count } = outcome.answer;
+        let counted = count as usize;
         let written = match self {
-            Case::Read { .. } if number == 0 => hex_words(&front(&outcome.words, Order::NUMBERS)),
-            Case::Write { .. } | Case::Plan { .. } => hex(&front(&outcome.bytes, count as usize)),
-            Case::Run { .. } => hex_words(&front(&outcome.words, count as usize)),
+            Case::Read { .. } if number == 0 => hex_words(outcome.output_words()),
+            Case::Write { .. } | Case::Plan { .. } => hex(&outcome.output_bytes()[..counted]),
+            Case::Run { .. } => hex_words(&outcome.output_words()[..counted]),
             _ => hex(&[]),
         };
         let name = self.operation().name();
@@ -131,11 +147,11 @@ impl Case {
     }
 }
 
-/// Memory with a margin on either side, none of it plain.
-fn sentinels<T>(room: usize, cell: fn(u64) -> T) -> Vec<T> {
+/// Memory with a margin on either side.
+fn memory<T>(room: usize, fill: fn(&mut Random) -> u64, cell: fn(u64) -> T) -> Vec<T> {
     let mut random = Random::new(room as u64);
     let cells = 0..room + 2 * MARGIN;
-    cells.map(|_| cell(random.word())).collect()
+    cells.map(|_| cell(fill(&mut random))).collect()
 }
 
 /// The part that a program is given.
@@ -144,9 +160,10 @@ fn inside<T>(memory: &mut [T]) -> &mut [T] {
     &mut memory[MARGIN..end]
 }
 
-/// The front of the part that a program was given.
-fn front<T: Clone>(memory: &[T], count: usize) -> Vec<T> {
-    memory.iter().skip(MARGIN).take(count).cloned().collect()
+/// The part that a program was given; nothing where there is no memory.
+fn within<T>(memory: &[T]) -> &[T] {
+    let end = memory.len().saturating_sub(MARGIN);
+    memory.get(MARGIN..end).unwrap_or(&[])
 }
 
 /// Two digits a byte; `-` for none.

@@ -7,11 +7,10 @@ use crate::order::Order;
 use crate::response::Roster;
 use std::cmp::Reverse;
 
-/// An open partition with its members and their worst responses by rank.
+/// An open partition with its members.
 struct Open {
     partition: Partition,
     roster: Roster,
-    responses: Vec<u32>,
 }
 
 /// The build of an order, or 11 at the task that finds no place.
@@ -25,14 +24,11 @@ pub fn first_fit(order: &Order, count: &mut impl Count) -> Result<Build, Refusal
                 first: open.last().map_or(0, |last| last.partition.end()),
             };
             Cause::NoFit.unless_at(i, partition.end() <= order.processors)?;
-            open.push(Open {
-                partition,
-                roster: Roster::default().with(i, task),
-                responses: vec![task.c], // alone, a task starts at once and always passes
-            });
+            // Alone, a task always passes.
+            open.push(Open { partition, roster: Roster::default().with(i, task) });
         }
     }
-    Ok(record(order, &open))
+    Ok(record(order, &open, count))
 }
 
 /// The tasks by larger m, then smaller T, then lower number.
@@ -48,21 +44,20 @@ fn by_volume(order: &Order) -> Vec<usize> {
 fn join(open: &mut [Open], order: &Order, i: usize, count: &mut impl Count) -> bool {
     open.iter_mut().any(|part| {
         let roster = part.roster.with(i, order.tasks[i]);
-        match roster.responses(count) {
-            Ok(responses) => {
-                (part.roster, part.responses) = (roster, responses);
-                true
-            }
-            Err(_) => false,
+        let passes = roster.all_pass(i, count);
+        if passes {
+            part.roster = roster;
         }
+        passes
     })
 }
 
 /// The build with the final ranks and worst responses.
-fn record(order: &Order, open: &[Open]) -> Build {
+fn record(order: &Order, open: &[Open], count: &mut impl Count) -> Build {
     let mut seats = vec![Seat::default(); order.tasks.len()];
-    for (partition, part) in open.iter().enumerate() {
-        for (rank, (&i, &response)) in part.roster.numbers.iter().zip(&part.responses).enumerate() {
+    for (partition, Open { roster, .. }) in open.iter().enumerate() {
+        let responses = roster.responses(count).expect("every member passed");
+        for (rank, (&i, response)) in roster.numbers.iter().zip(responses).enumerate() {
             seats[i] = Seat { partition: partition as u32, rank: rank as u32, response };
         }
     }

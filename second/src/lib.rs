@@ -11,13 +11,16 @@ pub mod check;
 pub mod count;
 pub mod fit;
 pub mod generate;
+pub mod library;
 pub mod machine;
 pub mod options;
 pub mod order;
 pub mod program;
 pub mod response;
 pub mod script;
+pub mod search;
 pub mod tally;
+pub mod vectors;
 
 use answer::{Answer, Cause, Refusal};
 use count::Count;

@@ -1,6 +1,7 @@
-//! The programs' options: `--cases N`, `--seed S`, `--each K`, `--only read,write,..`.
+//! The programs' options: `--cases N`, `--seed S`, `--each K`, `--only read,write,..`, `--form F`.
 
 use crate::case::Operation;
+use crate::vectors::Form;
 
 /// What to draw.
 pub struct Options {
@@ -8,6 +9,7 @@ pub struct Options {
     pub seed: u64,
     pub each: u32,
     pub only: Option<Vec<Operation>>,
+    pub form: Form,
 }
 
 impl Options {
@@ -15,6 +17,7 @@ impl Options {
     pub fn from_arguments() -> Options {
         Options::parse(std::env::args().skip(1)).unwrap_or_else(|| {
             eprintln!("options: --cases N  --seed S  --each K  --only read,write,plan,check,run");
+            eprintln!("         --form text, --form cases or --form answers");
             std::process::exit(2)
         })
     }
@@ -25,7 +28,8 @@ impl Options {
     }
 
     fn parse(mut arguments: impl Iterator<Item = String>) -> Option<Options> {
-        let mut options = Options { cases: 200_000, seed: 1, each: 4, only: None };
+        let form = Form::Text;
+        let mut options = Options { cases: 200_000, seed: 1, each: 4, only: None, form };
         while let Some(name) = arguments.next() {
             let value = arguments.next()?;
             match name.as_str() {
@@ -33,6 +37,7 @@ impl Options {
                 "--seed" => options.seed = value.parse().ok()?,
                 "--each" => options.each = value.parse().ok()?,
                 "--only" => options.only = Some(operations(&value)?),
+                "--form" => options.form = Form::named(&value)?,
                 _ => return None,
             }
         }

@@ -82,15 +82,15 @@ fn p4_release_at_the_start() {
     let roster = partition(&[(4, 4, 2), (100, 50, 2), (100, 100, 1)]);
     assert_eq!(roster.responses(&mut ()), Ok(vec![3, 4, 7]));
     let last = Member::new(&roster.tasks, 2);
-    assert_eq!(last.start(0, 0, &mut ()), Some(6));
+    assert_eq!(last.start(0, 0..=100, &mut ()), Some(6));
 }
 
 #[test]
 fn p5_p6_second_job_of_a_window() {
     let roster = partition(&[(10, 10, 4), (14, 13, 4), (14, 13, 4)]);
     let third = Member::new(&roster.tasks, 2);
-    assert_eq!(third.window(&mut ()), Some(28));
-    let response = |q| third.start(q, 0, &mut ()).map(|start| start + 4 - 14 * q);
+    assert_eq!(third.window(1, &mut ()), Some(28));
+    let response = |q| third.start(q, 0..=100, &mut ()).map(|start| start + 4 - 14 * q);
     assert_eq!([0, 1].map(response), [Some(12), Some(14)]);
     assert_eq!(third.worst_response(&mut ()), Err(Cause::Late));
     let roster = partition(&[(10, 10, 4), (14, 13, 4), (14, 14, 4)]);
@@ -144,6 +144,6 @@ fn horizon() {
 fn terms_are_counted() {
     let roster = partition(&[(10, 10, 4), (14, 13, 4), (14, 13, 4)]);
     let mut terms = 0;
-    Member::new(&roster.tasks, 2).window(&mut terms);
+    Member::new(&roster.tasks, 2).window(1, &mut terms);
     assert_eq!(terms, 15);
 }

@@ -19,13 +19,14 @@ use Rattle.build.specs.Trip.{Holds}
 use Rattle.build.proofs.Trip.{length-right, reads-back}
 use Rattle.fit.specs.Turns.{partitionOf}
 use Rattle.fit.specs.Claims.{Built}
-use Rattle.plan.specs.Plan.{fittedOf}
+use Rattle.demand.proofs.Within.{limits-sound}
+use Rattle.fit.specs.Recorded.{fittedOf}
 use Rattle.plan.proofs.Fields.{recordedPartitions, recorded, built, fields-fit, zero-past}
 use Rattle.plan.proofs.Claims.{order-rules, fit-done, counted}
 use Rattle.inspect.specs.Rules.{partitionsOf, checkAnswer}
 use Rattle.inspect.specs.Meaning.{PartitionRight}
 use Rattle.inspect.specs.Claims.{OrderRight, LayoutRight, Accepted}
-use Rattle.inspect.proofs.Claims.{limits-sound, accepted-done}
+use Rattle.inspect.proofs.Claims.{accepted-done}
 use Rattle.agree.specs.Claims.{PlannedIsAccepted}
 
 module _ (order : List ℕ) (rules : allHold (orderRules order)) {count : ℕ} (done : fittedOf (orderAt order) .answer ≡ Done count) where

@@ -6,8 +6,7 @@ use native.Mathlib.Nat.{add-zero, mul-le-mul-right}
 use native.Mathlib.Omega.{arith}
 use Rattle.laws.specs.Sums.{only, sum}
 use Rattle.laws.proofs.Growth.{sum-further}
-use Rattle.laws.proofs.Only.{only-some}
-use Rattle.laws.proofs.Picked.{only-le}
+use Rattle.laws.proofs.Only.{only-some, only-le}
 use Rattle.demand.specs.Releases.{periodOf, cost, costOf, releasesBy}
 use Rattle.demand.specs.Test.{Sound}
 use Rattle.demand.proofs.Releases.{by-spaced}

@@ -5,8 +5,7 @@ use mathlib.Core.Bool.{Bool, true}
 use native.Mathlib.Omega.{arith}
 use Rattle.laws.specs.Sums.{only}
 use Rattle.laws.proofs.Sums.{sum-le, sum-same, sum-add, sum-zero, sum-in, sum-some}
-use Rattle.laws.proofs.Only.{only-none, only-add, only-some, only-true}
-use Rattle.laws.proofs.Picked.{only-mono}
+use Rattle.laws.proofs.Only.{only-none, only-add, only-some, only-true, only-mono}
 use Rattle.busy.specs.Window.{overHigher, overBoth}
 
 module _ (higher : ℕ → Bool) (n : ℕ) where

@@ -8,8 +8,7 @@ use native.Mathlib.Omega.{arith}
 use lib.Dec.{eqb}
 use Rattle.laws.specs.Sums.{only, largest}
 use Rattle.laws.proofs.Sums.{largest-in}
-use Rattle.laws.proofs.Only.{only-true}
-use Rattle.laws.proofs.Picked.{only-le}
+use Rattle.laws.proofs.Only.{only-true, only-le}
 use Rattle.machine.specs.Step.{Pattern, Running, free, runs, Scheduler, ended, ofMembers, joined, occupies}
 use Rattle.machine.proofs.Highest.{Ranked, not-both}
 use Rattle.machine.proofs.View.{goes-on, begins, rests, ViewAt, view, waitingBefore, runningBefore}

@@ -5,8 +5,6 @@ pub mod Over
 pub mod Table
 pub mod Largest
 pub mod Meaning
-pub mod Sound
 pub mod Packed
-pub mod Points
 pub mod Membership
 pub mod Within

@@ -12,7 +12,8 @@ use lib.ListN.{getD}
 use borrow.Author.Tests.{lt-ltb, le-ltb, eq-eqb, ne-eqb, ltb-true, eqb-true, eqb-false}
 use Rattle.laws.specs.Sums.{only}
 use Rattle.laws.proofs.Sums.{sum-none, sum-more}
-use Rattle.laws.proofs.Picked.{only-le, sum-most, sum-with}
+use Rattle.laws.proofs.Only.{only-le}
+use Rattle.laws.proofs.Picked.{sum-most, sum-with}
 use Rattle.demand.specs.Kinds.{Task}
 use Rattle.demand.specs.Priority.{deadlineOf, outranks, inPartition, higher, lower, rank}
 

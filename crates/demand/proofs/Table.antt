@@ -6,7 +6,8 @@ use native.Mathlib.Nat.{mul-le-mul-right, le-trans}
 use native.Mathlib.Omega.{arith}
 use Rattle.laws.specs.Sums.{only, largest}
 use Rattle.laws.proofs.Sums.{sum-le, sum-same, sum-none, sum-more, largest-le, largest-none, largest-more}
-use Rattle.laws.proofs.Picked.{only-mono, only-le, sum-with}
+use Rattle.laws.proofs.Only.{only-mono, only-le}
+use Rattle.laws.proofs.Picked.{sum-with}
 use Rattle.demand.specs.Kinds.{Task}
 use Rattle.demand.specs.Priority.{deadlineOf, higher, lower}
 use Rattle.demand.specs.Releases.{periodOf, costOf, releasesIn, releasesBy}

@@ -7,8 +7,7 @@ use lib.Dec.{eqb}
 use borrow.Author.Tests.{eqb-true}
 use Rattle.laws.proofs.Sums.{sum-suc}
 use Rattle.laws.proofs.Growth.{sum-grows, sum-crosses}
-use Rattle.laws.proofs.Only.{only-some}
-use Rattle.laws.proofs.Picked.{only-le}
+use Rattle.laws.proofs.Only.{only-some, only-le}
 use Rattle.machine.specs.Step.{Pattern, Running, free, runs, Scheduler, Ends}
 use Rattle.machine.proofs.Highest.{Ranked}
 use Rattle.machine.proofs.View.{runningBefore}

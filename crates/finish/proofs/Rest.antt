@@ -6,7 +6,7 @@ use native.Mathlib.Nat.{add-suc}
 use native.Mathlib.Omega.{arith}
 use Rattle.laws.specs.Sums.{sum}
 use Rattle.laws.proofs.Sums.{sum-suc, sum-le, sum-same, sum-add, sum-in}
-use Rattle.laws.proofs.Picked.{only-le}
+use Rattle.laws.proofs.Only.{only-le}
 use Rattle.machine.specs.Step.{Pattern, Running, free, runs, Scheduler, ofMembers}
 use Rattle.machine.proofs.Highest.{Ranked}
 use Rattle.machine.proofs.View.{runningBefore}

@@ -7,4 +7,3 @@ pub mod Claims
 pub mod Loop
 pub mod Built
 pub mod Fields
-pub mod Points

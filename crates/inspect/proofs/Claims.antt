@@ -3,22 +3,23 @@ use mathlib.Core.Path.{_≡_, refl, sym, ap, _∙_}
 use mathlib.Core.List.{List, _++_}
 use Prim.Native.Nat.{ℕ, _<_}
 use lib.ListN.{length}
-use Rattle.laws.proofs.Filled.{length-filled, filled-past}
-use Rattle.model.specs.Limits.{mostTasks, taskOf, zeroTask}
+use Rattle.model.specs.Limits.{taskOf}
 use Rattle.model.specs.Answer.{countOf}
-use Rattle.model.specs.Rules.{taskRules, rangeRules, WithinLimits}
+use Rattle.model.specs.Rules.{taskRules, rangeRules}
 use Rattle.model.specs.Stated.{causes, AllKept, RightAnswer}
-use Rattle.model.proofs.Rules.{done-hold, hold-done}
+use Rattle.model.proofs.Rules.{done-hold, hold-done, hold-front}
 use Rattle.model.proofs.Stated.{kept-append, kept-front, kept-rest, kept-at, kept-all, hold-kept, kept-hold, right-answer, answer-right}
-use Rattle.order.specs.Order.{headerOf, taskAt, orderAt, headerRules, spareRules, layoutRules, orderRules}
+use Rattle.order.specs.Order.{headerOf, orderAt, headerRules, spareRules, layoutRules, orderRules}
+use Rattle.order.proofs.Reading.{within-limits}
 use Rattle.build.specs.Build.{memberOf, buildHeaderOf, buildAt}
 use Rattle.demand.specs.Test.{Sound, verdict}
 use Rattle.demand.specs.Meaning.{IsPassing}
 use Rattle.demand.proofs.Meaning.{every-verdict-means}
+use Rattle.demand.proofs.Within.{limits-sound}
 use Rattle.inspect.specs.Kinds.{Order, Build, Answer, Done, Refused, Refusal, Passes}
 use Rattle.inspect.specs.Rules.{partitionsOf, buildLayoutRules, partitionRules, widthRules, rankRules, testRules, verdictRules, recordRules, buildRules, checkRules, checkAnswer}
 use Rattle.inspect.specs.Meaning.{CheckSays}
-use Rattle.inspect.specs.Claims.{OrderRight, LayoutRight, RecordsRight, EveryRule, DoneExactly, RefusedExactly, OneAnswer, OnlyAnswer, CountsNothing, Accepted, DoneAccepts, AcceptedDone}
+use Rattle.inspect.specs.Claims.{OrderRight, LayoutRight, RecordsRight, EveryRule, DoneExactly, RefusedExactly, OneAnswer, OnlyAnswer, CheckingUnique, CountsNothing, Accepted, DoneAccepts, AcceptedDone}
 use Rattle.inspect.proofs.Turn.{check-in-turn}
 use Rattle.inspect.proofs.Verdicts.{passing-worst, worst-passing, passing-starts, worst-one}
 
@@ -142,6 +143,9 @@ refused-exactly order build refusal =
 pub only-answer : OnlyAnswer
 only-answer order build one other a b = one-answer order build one .1 a ∙ sym (one-answer order build other .1 b)
 
+pub checking-unique : CheckingUnique
+checking-unique order build one other a b = a ∙ sym b
+
 pub counts-nothing : CountsNothing
 unfolding countOf RightAnswer
 counts-nothing order build = go (checkAnswer order build) refl
@@ -149,28 +153,6 @@ counts-nothing order build = go (checkAnswer order build) refl
     go : (answer : Answer) → answer ≡ checkAnswer order build → countOf answer ≡ 0
     go (Done count) e = one-answer order build (Done count) .0 e .0
     go (Refused refusal) e = refl
-
--- the order of an accepted order's bytes is within the limits
-pub order-limits : (order : List ℕ) → OrderRight order → WithinLimits (orderAt order)
-unfolding orderAt
-order-limits order r =
-    let n = headerOf order .tasks in
-    record {
-      processors = r .processors;
-      tasks = r .tasks;
-      places = length-filled (taskAt order) zeroTask mostTasks n (r .tasks .1);
-      each = r .ranges;
-      zero-past = λ i past. filled-past (taskAt order) zeroTask mostTasks n i past;
-    }
-
-pub limits-sound : (o : Order) → WithinLimits o → Sound (o .table) (o .tasks)
-limits-sound o w =
-    record {
-      few = w .tasks .1;
-      each = λ i l.
-          (let t = w .each i l in
-          record { run-least = t .run .0; run-most = t .run .1; deadline-most = t .deadline .1; period-most = t .period .1 });
-    }
 
 -- 27 to 30 of a member say that its verdict is to pass with the response that is recorded
 module _ (o : Order) (b : Build) (sound : Sound (o .table) (o .tasks)) where
@@ -198,10 +180,10 @@ module _ (o : Order) (b : Build) (sound : Sound (o .table) (o .tasks)) where
       }
 
 pub done-accepts : DoneAccepts
-unfolding buildAt
+unfolding buildAt checkAnswer checkRules
 done-accepts order build e =
     let r = done-exactly order build .0 e in
-    let limits = order-limits order (r .order-right) in
+    let limits = within-limits order (hold-front (orderRules order) (buildRules (orderAt order) build) (done-hold 0 (checkRules order build) e)) in
     let sound = limits-sound (orderAt order) limits in
     let header = r .layout-right .header in
     let records = r .records-right in

@@ -1,16 +1,16 @@
 -- What the tests of 21 to 26 tell.
-use mathlib.Core.Path.{_≡_, refl, sym, _∙_, subst}
+use mathlib.Core.Path.{_≡_, refl, sym, _∙_}
 use mathlib.Core.Bool.{Bool, true, false, not}
 use mathlib.Core.List.{List}
 use mathlib.Core.Logic.{_↔_}
 use Prim.Native.Nat.{ℕ, _+_, _≤_, _<_, min, max}
 use native.Mathlib.Omega.{arith}
-use lib.Dec.{leb, ltb, eqb, T}
+use lib.Dec.{leb, ltb, eqb}
 use borrow.Author.Tests.{eq-eqb, eqb-true, le-leb, leb-true, lt-ltb, ltb-true, not-true}
 use Rattle.laws.specs.Choice.{pick, within}
 use Rattle.laws.specs.Every.{every}
 use Rattle.laws.proofs.Choice.{both, within-true, true-within}
-use Rattle.laws.proofs.Every.{every-at, every-all}
+use Rattle.laws.proofs.Every.{clash, every-at, every-all}
 use Rattle.model.specs.Limits.{mostPartitions}
 use Rattle.model.specs.Rules.{allHold}
 use Rattle.build.specs.declared.read.BuildHeader.{BuildHeader}
@@ -31,9 +31,6 @@ range-tells least most x = (within-true least most x, λ r. true-within least mo
 
 both-true : (a b : Bool) → a ≡ true → b ≡ true → pick a b false ≡ true
 both-true a b x y = rw x y
-
-clash : {A : Type 0} → true ≡ false → A
-clash e = absurd (subst T e tt)
 
 -- 21
 pub header-tells : (o : Order) (s : List ℕ) → (headerMatches o (buildHeaderOf s) ≡ true) ↔ HeaderMatches o s
@@ -85,7 +82,7 @@ partition-tells processors places i =
           record {
             some = leb-true _ _ (a .0);
             inside = leb-true _ _ (b .0);
-            apart = λ j l shared. clash (sym (overlap-tells (placeOf places j) place .1 shared) ∙ not-true _ (every-at apart i (b .1) j l));
+            apart = λ j l shared. clash (sym (not-true _ (every-at apart i (b .1) j l)) ∙ overlap-tells (placeOf places j) place .1 shared);
           },
       λ r.
           both-true _ _ (le-leb _ _ (r .some)) (both-true _ _ (le-leb _ _ (r .inside)) (every-all apart i (λ j l. apart-test (overlaps (placeOf places j) place) (λ e. r .apart j l (overlap-tells (placeOf places j) place .0 e))))),

@@ -7,13 +7,12 @@ use lib.Dec.{eqb}
 use Rattle.model.specs.Limits.{mostTasks, mostProcessors, mostPeriod, orderLength, buildLength, taskOf}
 use Rattle.model.specs.Rules.{rule, allHold, taskRules, rangeRules}
 use Rattle.model.specs.Stated.{TestsTell}
-use Rattle.model.proofs.Rules.{hold-front, hold-rest}
 use Rattle.model.proofs.Stated.{tell-append, tell-all, tell-one}
 use Rattle.order.specs.Order.{headerOf, taskSpareAt, orderAt, headerRules, spareRules, layoutRules, orderRules}
-use Rattle.order.proofs.Rules.{layout-header}
+use Rattle.order.proofs.Reading.{within-limits}
 use Rattle.build.specs.Build.{memberOf, buildHeaderOf, buildAt}
 use Rattle.demand.specs.Test.{Sound, verdict}
-use Rattle.demand.proofs.Sound.{rules-sound}
+use Rattle.demand.proofs.Within.{limits-sound}
 use Rattle.inspect.specs.Kinds.{Order, Build, Refusal, TaskSpare, PartitionPlace, TaskPartition, Rank}
 use Rattle.inspect.specs.Rules.{partitionsOf, buildLayoutRules, partitionRight, partitionRules, wideEnough, widthRules, rankRight, rankRules, verdictRules, testRules, recordRules, buildRules, checkRules}
 use Rattle.inspect.specs.Meaning.{CheckSays}
@@ -22,12 +21,7 @@ use Rattle.inspect.proofs.Verdicts.{window-tells, starts-tell, in-time-
 
 -- an order whose rules hold has a sound table
 pub order-sound : (s : List ℕ) → allHold (orderRules s) → Sound (orderAt s .table) (orderAt s .tasks)
-unfolding orderRules orderAt
-order-sound s all =
-    let o = orderAt s in
-    let ranges = rangeRules (o .processors) (o .table) (o .tasks) in
-    let header = layout-header s (hold-front (layoutRules s) ranges all) in
-    rules-sound (o .processors) (o .table) (o .tasks) (header .tasks .1) (hold-rest (layoutRules s) ranges all)
+order-sound s all = limits-sound (orderAt s) (within-limits s all)
 
 module _ (order build : List ℕ) where
   abbrev Says : Refusal → Type 0

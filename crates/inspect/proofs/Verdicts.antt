@@ -1,12 +1,12 @@
 -- What the tests of 27 to 30 tell of a member, each where those before it hold.
 use mathlib.Core.Path.{_≡_, refl, sym, _∙_, subst}
-use mathlib.Core.Bool.{true, false}
+use mathlib.Core.Bool.{true}
 use mathlib.Core.List.{List}
 use mathlib.Core.Logic.{_↔_}
 use Prim.Native.Nat.{ℕ, _*_, _≤_, _<_}
 use native.Mathlib.Omega.{arith}
-use lib.Dec.{T}
 use borrow.Author.Tests.{eq-eqb, eqb-true}
+use Rattle.laws.proofs.Every.{clash}
 use Rattle.demand.specs.Priority.{deadlineOf}
 use Rattle.demand.specs.Releases.{periodOf}
 use Rattle.demand.specs.Test.{Sound, windowDemand, startDemand, verdict}
@@ -16,9 +16,6 @@ use Rattle.demand.proofs.FirstMet.{met-one}
 use Rattle.inspect.specs.Kinds.{Task, Verdict, Passes, NoWindow, NoStart, TooLate}
 use Rattle.inspect.specs.Rules.{windowThere, startsThere, inTime, responseRight}
 use Rattle.inspect.specs.Meaning.{WindowThere, StartsThere, IsWorst, InTime}
-
-clash : {A : Type 0} → false ≡ true → A
-clash e = absurd (subst T (sym e) tt)
 
 -- what 27 to 30 say of member i
 module _ (table : List Task) (partitions : List ℕ) (n i : ℕ) where

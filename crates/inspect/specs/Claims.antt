@@ -12,7 +12,7 @@ use Rattle.order.specs.Order.{headerOf, taskSpareAt, orderAt}
 use Rattle.build.specs.Build.{memberOf, buildHeaderOf, buildAt}
 use Rattle.demand.specs.Test.{Sound, verdict}
 use Rattle.inspect.specs.Kinds.{Order, Build, Answer, Done, Refused, Refusal, Passes}
-use Rattle.inspect.specs.Rules.{partitionsOf, checkRules, checkAnswer}
+use Rattle.inspect.specs.Rules.{partitionsOf, checkRules, checkAnswer, Checks}
 use Rattle.inspect.specs.Meaning.{InRange, HeaderMatches, SparesZero, PartitionRight, WindowThere, StartsThere, InTime, WideEnough, RankRight, ResponseRight, CheckSays}
 
 -- 1 to 10 all hold
@@ -66,6 +66,10 @@ OneAnswer = (order build : List ℕ) (answer : Answer) →
 abbrev pub OnlyAnswer : Type 0
 OnlyAnswer = (order build : List ℕ) (one other : Answer) →
     RightAnswer (CheckSays order build) 0 (causes (checkRules order build)) one → RightAnswer (CheckSays order build) 0 (causes (checkRules order build)) other → one ≡ other
+
+-- one possible answer for every input; the check is handed no memory to write
+abbrev pub CheckingUnique : Type 0
+CheckingUnique = (order build : List ℕ) (one other : Answer) → Checks order build one → Checks order build other → one ≡ other
 
 -- "(0 for the check and for an order read)"
 abbrev pub CountsNothing : Type 0

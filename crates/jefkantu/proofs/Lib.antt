@@ -1,6 +1,6 @@
 pub mod Numbers
 pub mod Word
+pub mod Fits
 pub mod Places
 pub mod Surface
-pub mod Builds
-pub mod Runs
+pub mod Claims

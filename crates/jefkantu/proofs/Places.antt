@@ -1,57 +1,36 @@
--- Every place and count that reader and writer answer fits its part of the word.
-use mathlib.Core.Path.{_≡_, refl, subst}
-use mathlib.Core.Bool.{Bool, true, false}
-use mathlib.Core.List.{List, [], _∷_, _++_, append-nil}
-use Prim.Native.Nat.{ℕ, zero, suc, _+_, _≤_, _<_}
+-- Every place and count that the five functions answer fits its part of the word.
+use mathlib.Core.Path.{_≡_, refl, ap}
+use mathlib.Core.List.{List, [], _∷_}
+use Prim.Native.Nat.{ℕ, _≤_, _<_}
 use native.Mathlib.Omega.{arith}
 use lib.ListN.{length}
-use Rattle.laws.specs.Choice.{pick}
-use Rattle.laws.specs.Joined.{joined}
 use Rattle.model.specs.declared.order.Task.{Task}
 use Rattle.model.specs.declared.order.Order.{Order}
+use Rattle.model.specs.declared.build.Build.{Build}
 use Rattle.model.specs.declared.answer.Answer.{Answer}
 use Rattle.model.specs.declared.answer.Answer.the-variants.{Done, Refused}
-use Rattle.model.specs.Answer.{causePlace, placeOf, countOf}
+use Rattle.model.specs.Answer.{causePlace}
 use Rattle.model.specs.Limits.{orderLength, taskOf}
-use Rattle.model.specs.Rules.{Rule, firstBroken, allHold, taskRules, rangeRules, roomRules}
+use Rattle.model.specs.Rules.{allHold, taskRules, rangeRules, roomRules, WithinLimits}
 use Rattle.order.specs.declared.Header.{Header}
-use Rattle.order.specs.Order.{headerOf, orderAt, headerRules, spareRules, layoutRules, orderRules, readingOf, readOrder}
+use Rattle.order.specs.Order.{headerOf, orderAt, headerRules, spareRules, layoutRules, orderRules, readOrder}
 use Rattle.order.proofs.Rules.{tasks-small}
+use Rattle.order.proofs.Reading.{read-answer, within-limits}
 use Rattle.order_out.specs.Write.{columnOrder, columnRules, writeRules, writeAnswer}
 use Rattle.order_out.proofs.Rules.{columns-passed}
-use Rattle.jefkantu.specs.Word.{FitsWord, WordTells}
-use Rattle.jefkantu.specs.Surface.{ReadTells, WriteTells}
-use Rattle.jefkantu.proofs.Word.{word-tells}
-
--- the place of each rule's refusal fits
-unfoldable pub PlacesFit : List Rule → Type 0
-PlacesFit [] = Unit
-PlacesFit (r ∷ rules) = (causePlace (r .refusal) < 65_536) × PlacesFit rules
-
-pub places-append : (a b : List Rule) → PlacesFit a → PlacesFit b → PlacesFit (a ++ b)
-unfolding PlacesFit
-places-append [] b p q = q
-places-append (r ∷ a) b p q = (p .0, places-append a b (p .1) q)
-
-pub places-joined : (f : ℕ → List Rule) (n : ℕ) → ((i : ℕ) → i < n → PlacesFit (f i)) → PlacesFit (joined f n)
-unfolding PlacesFit joined
-places-joined f zero each = tt
-places-joined f (suc n) each = places-append (joined f n) (f n) (places-joined f n (λ i l. each i (omega arith))) (each n (omega arith))
-
--- an answer of rules in turn fits the word, where those after the first part fit once the first part holds
-module _ (count : ℕ) where
-  pub answer-fits : (a b : List Rule) → PlacesFit a → (allHold a → FitsWord (firstBroken count b)) → FitsWord (firstBroken count (a ++ b))
-  unfolding PlacesFit firstBroken allHold placeOf countOf
-  answer-fits [] b places rest = rest tt
-  answer-fits (r ∷ a) b places rest = go (λ (h : r .holds ≡ true). answer-fits a b (places .1) (λ all. rest (h, all))) (r .holds) refl
-    where
-      go : (r .holds ≡ true → FitsWord (firstBroken count (a ++ b))) → (h : Bool) → r .holds ≡ h → FitsWord (pick h (firstBroken count (a ++ b)) (Refused (r .refusal)))
-      go on true e = on e
-      go on false e = record { place = places .0; count = omega arith }
-
-  pub done-fits : count < 4_294_967_296 → FitsWord (firstBroken count [])
-  unfolding firstBroken placeOf countOf
-  done-fits few = record { place = omega arith; count = few }
+use Rattle.build.specs.declared.read.BuildHeader.{BuildHeader}
+use Rattle.build.specs.Build.{buildHeaderOf, buildAt}
+use Rattle.build.proofs.Fits.{header-fits}
+use Rattle.fit.specs.Recorded.{fittedOf}
+use Rattle.fit.proofs.Built.{fitted-is-refused}
+use Rattle.fit.proofs.Fields.{fitted-in-fields}
+use Rattle.plan.specs.Plan.{fitRules, sizeOf, fittedRules, planRules, planAnswer}
+use Rattle.inspect.specs.Rules.{buildLayoutRules, partitionRules, widthRules, rankRules, verdictRules, testRules, recordRules, buildRules, checkRules, checkAnswer}
+use Rattle.script.specs.Script.{recordsIn, releaseRules, recordRules as releaseRulesAt, scriptRules}
+use Rattle.script.proofs.Meaning.{whole-tells}
+use Rattle.run.specs.Run.{runRules, runAnswer}
+use Rattle.jefkantu.specs.Word.{FitsWord}
+use Rattle.jefkantu.proofs.Fits.{PlacesFit, places-append, places-joined, answer-fits, alone-fits}
 
 pub range-places : (processors : ℕ) (table : List Task) (tasks : ℕ) → tasks ≤ 65_536 → PlacesFit (rangeRules processors table tasks)
 unfolding PlacesFit rangeRules causePlace
@@ -78,16 +57,8 @@ order-places s =
     let layout = places-append (headerRules (length s) (headerOf s)) (spareRules s (headerOf s .tasks)) (header-places (length s) (headerOf s)) (spare-places s (headerOf s .tasks) few) in
     places-append (layoutRules s) _ layout (range-places (orderAt s .processors) (orderAt s .table) (headerOf s .tasks) few)
 
-pub alone-fits : (count : ℕ) (rules : List Rule) → PlacesFit rules → count < 4_294_967_296 → FitsWord (firstBroken count rules)
-alone-fits count rules places few = subst (λ (r : List Rule). FitsWord (firstBroken count r)) (append-nil rules) (answer-fits count rules [] places (λ all. done-fits count few))
-
-reading-answer : (answer : Answer) (order : Order) → readingOf answer order .answer ≡ answer
-reading-answer (Done count) order = refl
-reading-answer (Refused cause) order = refl
-
 pub read-fits : (s : List ℕ) → FitsWord (readOrder s .answer)
-unfolding readOrder
-read-fits s = rw (reading-answer (firstBroken 0 (orderRules s)) (orderAt s)) (alone-fits 0 (orderRules s) (order-places s) (omega arith))
+read-fits s = rw (read-answer s) (alone-fits 0 (orderRules s) (order-places s) (omega arith))
 
 -- whatever columns are written: past 32 tasks the columns are refused
 pub write-fits : (processors : ℕ) (widths periods deadlines runs : List ℕ) (room : ℕ) → FitsWord (writeAnswer processors widths periods deadlines runs room)
@@ -100,10 +71,61 @@ write-fits processors widths periods deadlines runs room =
     let few = columns-passed processors widths periods deadlines runs all .tasks-in .1 in
     alone-fits size _ (places-append (rangeRules processors (columnOrder processors widths periods deadlines runs .table) (length widths)) (roomRules size room) (range-places processors _ (length widths) (omega (arith, few))) (omega arith, tt)) (omega (arith, few)))
 
-pub read-tells : ReadTells
-unfolding ReadTells WordTells
-read-tells order numbers word after r = rw (r .answered) (word-tells (readOrder order .answer) (read-fits order))
+-- the task that first fit names is one of the order's
+fit-places : (o : Order) → WithinLimits o → PlacesFit (fitRules (fittedOf o .answer))
+unfolding PlacesFit causePlace
+fit-places o limits = go (fittedOf o .answer) refl
+  where
+    go : (a : Answer) → fittedOf o .answer ≡ a → PlacesFit (fitRules a)
+    go (Done count) e = tt
+    go (Refused cause) e =
+        let r = fitted-is-refused o (fittedOf o .build) cause limits (ap (λ (a : Answer). record { answer = a; build = fittedOf o .build }) e) .1 .1 in
+        (rw (r .1) (omega (arith, r .2 .next .below, limits .tasks)), tt)
 
-pub write-tells : WriteTells
-unfolding WriteTells WordTells
-write-tells processors widths periods deadlines runs output word after r = rw (r .answered) (word-tells _ (write-fits processors widths periods deadlines runs (length output)))
+pub plan-fits : (order : List ℕ) (room : ℕ) → FitsWord (planAnswer order room)
+unfolding planAnswer planRules fittedRules roomRules PlacesFit causePlace
+plan-fits order room =
+    let o = orderAt order in
+    let found = fittedOf o in
+    let size = sizeOf (found .build) in
+    answer-fits size (orderRules order) _ (order-places order)
+    (λ all.
+    let limits = within-limits order all in
+    let fields = fitted-in-fields o limits in
+    alone-fits size _ (places-append (fitRules (found .answer)) (roomRules size room) (fit-places o limits) (omega arith, tt)) (omega (arith, fields .partitions, fields .tasks)))
+
+layout-places : (o : Order) (s : List ℕ) (header : BuildHeader) → PlacesFit (buildLayoutRules o s header)
+unfolding PlacesFit buildLayoutRules causePlace
+layout-places o s header = (omega arith, (omega arith, (omega arith, (omega arith, tt))))
+
+record-places : (o : Order) (b : Build) → o .tasks ≤ 65_536 → b .partitions ≤ 65_536 → PlacesFit (recordRules o b)
+unfolding PlacesFit recordRules partitionRules widthRules rankRules testRules verdictRules causePlace
+record-places o b few small =
+    places-append (partitionRules (o .processors) (b .places) (b .partitions)) _ (places-joined _ (b .partitions) (λ i l. (omega arith, tt)))
+    (places-append (widthRules o b (o .tasks)) _ (places-joined _ (o .tasks) (λ i l. (omega arith, tt)))
+    (places-append (rankRules o b (o .tasks)) _ (places-joined _ (o .tasks) (λ i l. (omega arith, tt)))
+    (places-joined _ (o .tasks) (λ i l. let p : i < 65_536 = omega arith in (p, (p, (p, (p, tt))))))))
+
+-- whatever bytes are checked
+check-places : (order build : List ℕ) → PlacesFit (checkRules order build)
+unfolding checkRules buildRules orderAt buildAt
+check-places order build =
+    let records = record-places (orderAt order) (buildAt build) (omega (arith, tasks-small order)) (omega (arith, header-fits build .2)) in
+    places-append (orderRules order) _ (order-places order)
+    (places-append (buildLayoutRules (orderAt order) build (buildHeaderOf build)) _ (layout-places (orderAt order) build (buildHeaderOf build)) records)
+
+pub check-fits : (order build : List ℕ) → FitsWord (checkAnswer order build)
+unfolding checkAnswer
+check-fits order build = alone-fits 0 (checkRules order build) (check-places order build) (omega arith)
+
+-- whatever script is run: past 1,024 records it is refused
+pub run-fits : (order build script : List ℕ) (places : ℕ) → FitsWord (runAnswer order build script places)
+unfolding runAnswer runRules scriptRules releaseRulesAt releaseRules PlacesFit allHold causePlace
+run-fits order build script places =
+    let count = recordsIn script in
+    answer-fits count (checkRules order build) _ (check-places order build)
+    (λ checked.
+    answer-fits count (_ ∷ []) _ (omega arith, tt)
+    (λ all.
+    let few : count ≤ 1_024 = whole-tells script .0 (all .0) .few in
+    alone-fits count _ (omega arith, places-joined _ count (λ i l. let p : i < 65_536 = omega arith in (p, (p, (p, (p, (p, tt))))))) (omega arith)))

@@ -56,6 +56,6 @@ three number place count n p = (omega arith, omega arith, omega arith)
 
 pub word-tells : WordTells
 unfolding WordTells answerWord
-word-tells answer fits =
+word-tells answer fits word e =
     let t = three (numberOf answer) (placeOf answer) (countOf answer) (number-small answer) (fits .place) in
-    record { number = t .0; place = t .1; count = t .2 }
+    rw e (record { number = t .0; place = t .1; count = t .2 })

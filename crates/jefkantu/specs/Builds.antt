@@ -6,7 +6,8 @@ use lib.ListN.{length}
 use Rattle.model.specs.Answer.{outputAfter}
 use Rattle.order.specs.Order.{orderAt}
 use Rattle.build.specs.Build.{buildBytes}
-use Rattle.plan.specs.Plan.{fittedOf, planAnswer}
+use Rattle.fit.specs.Recorded.{fittedOf}
+use Rattle.plan.specs.Plan.{planAnswer}
 use Rattle.inspect.specs.Rules.{checkAnswer}
 use Rattle.jefkantu.specs.Word.{answerWord}
 
@@ -18,11 +19,3 @@ pub record PlansBuild (order output : List ℕ) (word : ℕ) (after : List ℕ) 
 -- what jefkantu_check promises
 abbrev pub ChecksBuild : (order build : List ℕ) (word : ℕ) → Type 0
 ChecksBuild order build word = word ≡ answerWord (checkAnswer order build)
-
--- "the statement leaves one possible number, place, count and content of the caller's memory"
-unfoldable pub PlanUnique : Type 0
-PlanUnique = (order output : List ℕ) (word other : ℕ) (after others : List ℕ) → PlansBuild order output word after → PlansBuild order output other others →
-    (word ≡ other) × (after ≡ others)
-
-unfoldable pub CheckUnique : Type 0
-CheckUnique = (order build : List ℕ) (word other : ℕ) → ChecksBuild order build word → ChecksBuild order build other → word ≡ other

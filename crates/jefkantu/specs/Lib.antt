@@ -2,3 +2,4 @@ pub mod Word
 pub mod Surface
 pub mod Builds
 pub mod Runs
+pub mod Claims

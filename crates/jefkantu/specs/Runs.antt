@@ -10,7 +10,3 @@ use Rattle.jefkantu.specs.Word.{answerWord}
 pub record RunsScript (order build script output : List ℕ) (word : ℕ) (after : List ℕ) : Type 0 where
   pub answered : word ≡ answerWord (runAnswer order build script (length output))
   pub written : after ≡ runOutput order build script output
-
-unfoldable pub RunUnique : Type 0
-RunUnique = (order build script output : List ℕ) (word other : ℕ) (after others : List ℕ) →
-    RunsScript order build script output word after → RunsScript order build script output other others → (word ≡ other) × (after ≡ others)

@@ -1,4 +1,4 @@
--- What each function of the C surface promises: the word it answers, and all that the caller's memory holds afterwards.
+-- What the C surface promises of orders read and written: the word answered, and all that the caller's memory holds afterwards.
 use Prim.Native.Nat.{ℕ}
 use mathlib.Core.Path.{_≡_}
 use mathlib.Core.List.{List, [], _∷_}
@@ -12,7 +12,7 @@ use Rattle.model.specs.Answer.{outputAfter}
 use Rattle.model.specs.Limits.{mostTasks, taskOf}
 use Rattle.order.specs.Order.{readOrder, orderBytes}
 use Rattle.order_out.specs.Write.{columnOrder, writeAnswer}
-use Rattle.jefkantu.specs.Word.{answerWord, Tells}
+use Rattle.jefkantu.specs.Word.{answerWord}
 
 -- a task as four numbers: m, T, D, C
 abbrev pub taskNumbers : Task → List ℕ
@@ -36,21 +36,3 @@ pub record ReadsOrder (order numbers : List ℕ) (word : ℕ) (after : List ℕ)
 pub record WritesOrder (processors : ℕ) (widths periods deadlines runs output : List ℕ) (word : ℕ) (after : List ℕ) : Type 0 where
   pub answered : word ≡ answerWord (writeAnswer processors widths periods deadlines runs (length output))
   pub written : after ≡ outputAfter (writeAnswer processors widths periods deadlines runs (length output)) (orderBytes (columnOrder processors widths periods deadlines runs)) output
-
--- "the statement leaves one possible number, place, count and content of the caller's memory"
-unfoldable pub ReadUnique : Type 0
-ReadUnique = (order numbers : List ℕ) (word other : ℕ) (after others : List ℕ) → ReadsOrder order numbers word after → ReadsOrder order numbers other others →
-    (word ≡ other) × (after ≡ others)
-
-unfoldable pub WriteUnique : Type 0
-WriteUnique = (processors : ℕ) (widths periods deadlines runs output : List ℕ) (word other : ℕ) (after others : List ℕ) →
-    WritesOrder processors widths periods deadlines runs output word after → WritesOrder processors widths periods deadlines runs output other others →
-    (word ≡ other) × (after ≡ others)
-
--- the word of a reading and of a writing tells its answer
-unfoldable pub ReadTells : Type 0
-ReadTells = (order numbers : List ℕ) (word : ℕ) (after : List ℕ) → ReadsOrder order numbers word after → Tells word (readOrder order .answer)
-
-unfoldable pub WriteTells : Type 0
-WriteTells = (processors : ℕ) (widths periods deadlines runs output : List ℕ) (word : ℕ) (after : List ℕ) →
-    WritesOrder processors widths periods deadlines runs output word after → Tells word (writeAnswer processors widths periods deadlines runs (length output))

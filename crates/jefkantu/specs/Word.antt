@@ -29,5 +29,6 @@ pub record FitsWord (answer : Answer) : Type 0 where
   pub place : placeOf answer < 65_536
   pub count : countOf answer < 4_294_967_296
 
+-- the word of such an answer tells it
 unfoldable pub WordTells : Type 0
-WordTells = (answer : Answer) → FitsWord answer → Tells (answerWord answer) answer
+WordTells = (answer : Answer) → FitsWord answer → (word : ℕ) → word ≡ answerWord answer → Tells word answer

@@ -8,7 +8,8 @@ use native.Mathlib.Numerals.{add-one}
 use native.Mathlib.Omega.{arith}
 use Rattle.laws.specs.Every.{every}
 use Rattle.laws.specs.Sums.{only, sum}
-use Rattle.laws.proofs.Picked.{only-le, sum-most}
+use Rattle.laws.proofs.Only.{only-le}
+use Rattle.laws.proofs.Picked.{sum-most}
 
 pub clash : {A : Type 0} → false ≡ true → A
 clash e = let z : _≡_ {A = ℕ} 0 1 = cc e in absurd (omega arith)

@@ -19,10 +19,13 @@ pub only-add : (b : Bool) (x y : ℕ) → only b (x + y) ≡ only b x + only b y
 only-add true x y = refl
 only-add false x y = refl
 
--- where the test passes the one is at most the other
-pub only-under : (b : Bool) (x y : ℕ) → (b ≡ true → x ≤ y) → only b x ≤ only b y
-only-under true x y h = h refl
-only-under false x y h = omega arith
+pub only-mono : (b : Bool) {x y : ℕ} → x ≤ y → only b x ≤ only b y
+only-mono true h = h
+only-mono false h = omega arith
+
+pub only-le : (b : Bool) (x : ℕ) → only b x ≤ x
+only-le true x = omega arith
+only-le false x = omega arith
 
 pub only-same : (b : Bool) (x y : ℕ) → (b ≡ true → x ≡ y) → only b x ≡ only b y
 only-same true x y h = h refl

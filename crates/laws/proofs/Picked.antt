@@ -1,6 +1,6 @@
 -- Laws of sums over what a test picks, and of sums that are bounded or scaled part by part.
 use mathlib.Core.Path.{_≡_, refl, subst}
-use mathlib.Core.Bool.{Bool, true, false, _||_}
+use mathlib.Core.Bool.{Bool, false, _||_}
 use mathlib.Core.Logic.{⊎-elim}
 use Prim.Native.Nat.{ℕ, zero, suc, _+_, _*_, _≤_, _<_}
 use native.Mathlib.Nat.{eq-or-lt-of-le, le-of-suc-le-suc, suc-mul, mul-zero, mul-add}
@@ -9,14 +9,6 @@ use lib.Dec.{eqb}
 use borrow.Author.Tests.{eq-eqb, ne-eqb}
 use Rattle.laws.specs.Sums.{only, sum}
 use Rattle.laws.proofs.Sums.{sum-same}
-
-pub only-mono : (b : Bool) {x y : ℕ} → x ≤ y → only b x ≤ only b y
-only-mono true h = h
-only-mono false h = omega arith
-
-pub only-le : (b : Bool) (x : ℕ) → only b x ≤ x
-only-le true x = omega arith
-only-le false x = omega arith
 
 -- n parts of at most k each
 pub sum-most : (f : ℕ → ℕ) (k n : ℕ) → ((j : ℕ) → j < n → f j ≤ k) → sum f n ≤ n * k

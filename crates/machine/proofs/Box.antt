@@ -1,6 +1,6 @@
 -- The claims about the box, from the laws of one partition's machine.
 use Prim.Native.Nat.{ℕ, suc, _-_}
-use mathlib.Core.Path.{_≡_, refl, sym, _∙_, ap₂, subst, fun-ext}
+use mathlib.Core.Path.{_≡_, refl, sym, ap, _∙_, ap₂, subst, fun-ext}
 use mathlib.Core.Bool.{false}
 use mathlib.Core.List.{List}
 use mathlib.Core.Logic.{⊎-elim}
@@ -12,9 +12,9 @@ use Rattle.laws.proofs.Only.{only-none, only-same}
 use Rattle.demand.specs.Priority.{deadlineOf, outranks}
 use Rattle.demand.proofs.Priority.{outranks-self, outranks-one, outranks-chain}
 use Rattle.machine.specs.Kinds.{Task}
-use Rattle.machine.specs.Step.{Pattern, Job, Running, runs, State, ofMembers}
+use Rattle.machine.specs.Step.{Pattern, Job, Running, runs, State, ended, ofMembers}
 use Rattle.machine.specs.Box.{partitionOf, memberOf, schedulerOf, boxBefore, boxDuring, Finishes, FirstOf, processorOf}
-use Rattle.machine.specs.Claims.{FinishesOnce, QuietTicks, RunsOwnJobs, ServesOne, OccupiesOwn, OccupiesWidth}
+use Rattle.machine.specs.Claims.{FinishesOnce, FreeAtFinish, QuietTicks, RunsOwnJobs, ServesOne, OccupiesOwn, OccupiesWidth}
 use Rattle.machine.proofs.Highest.{Ranked, not-both}
 use Rattle.machine.proofs.Once.{ends-once, runs-then, runs-own}
 use Rattle.machine.proofs.Quiet.{quiet}
@@ -36,6 +36,10 @@ pub finishes-once : FinishesOnce
 unfolding Finishes
 finishes-once table partitions n releases task release f g =
     ends-once (schedulerOf table partitions n (partitionOf partitions task)) (ranked table) releases task release f g
+
+pub free-at-finish : FreeAtFinish
+unfolding Finishes ended
+free-at-finish table partitions n releases task release finish ends = ap ended ends
 
 -- no release in partition p is none of its members'
 no-release : (table : List Task) (partitions : List ℕ) (n p : ℕ) (releases : Pattern) (t m : ℕ)

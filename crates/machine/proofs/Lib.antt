@@ -7,4 +7,3 @@ pub mod Isolation
 pub mod Quiet
 pub mod Script
 pub mod Box
-pub mod Points

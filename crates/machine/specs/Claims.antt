@@ -4,7 +4,7 @@ use mathlib.Core.Path.{_≡_}
 use mathlib.Core.List.{List}
 use lib.ListN.{length}
 use Rattle.machine.specs.Kinds.{Task, Partition, Release}
-use Rattle.machine.specs.Step.{Pattern, Running, free, runs, State, step}
+use Rattle.machine.specs.Step.{Pattern, Running, free, runs, State, ended, step}
 use Rattle.machine.specs.Pattern.{LegalPattern, LegalScript, recordOf, patternOf}
 use Rattle.machine.specs.Box.{partitionOf, recordsOf, schedulerOf, boxBefore, Finishes, RunsAt, placeAt, processorOf, volumeOf, OfPartition, Occupies, Serves}
 use Rattle.model.specs.Limits.{taskOf}
@@ -13,6 +13,11 @@ use Rattle.model.specs.Limits.{taskOf}
 abbrev pub FinishesOnce : Type 0
 FinishesOnce = (table : List Task) (partitions : List ℕ) (n : ℕ) (releases : Pattern) (task release f g : ℕ)
     → Finishes table partitions n releases task release f → Finishes table partitions n releases task release g → f ≡ g
+
+-- "a job whose time is used up ends, with finish tick t": its partition is free then
+abbrev pub FreeAtFinish : Type 0
+FreeAtFinish = (table : List Task) (partitions : List ℕ) (n : ℕ) (releases : Pattern) (task release finish : ℕ)
+    → Finishes table partitions n releases task release finish → ended (boxBefore table partitions n releases finish (partitionOf partitions task) .running) ≡ free
 
 -- two patterns agree on the tasks of partition p
 abbrev pub AgreeOn : List ℕ → ℕ → Pattern → Pattern → Type 0

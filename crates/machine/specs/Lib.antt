@@ -3,4 +3,3 @@ pub mod Step
 pub mod Pattern
 pub mod Box
 pub mod Claims
-pub mod Points

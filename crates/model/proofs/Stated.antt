@@ -5,9 +5,9 @@ use mathlib.Core.List.{List, [], _∷_, _++_}
 use mathlib.Core.Logic.{_↔_}
 use Prim.Native.Nat.{ℕ, zero, suc, _+_, _<_}
 use native.Mathlib.Omega.{arith}
-use lib.Dec.{T}
 use Rattle.laws.specs.Choice.{pick}
 use Rattle.laws.specs.Joined.{joined}
+use Rattle.laws.proofs.Every.{clash}
 use Rattle.laws.proofs.Joined.{joined-at}
 use Rattle.model.specs.Kinds.{Answer, Done, Refused, Refusal}
 use Rattle.model.specs.Rules.{Rule, rule, firstBroken, allHold}
@@ -18,9 +18,6 @@ pub causes-append : (a b : List Rule) → causes (a ++ b) ≡ causes a ++ causes
 unfolding causes
 causes-append [] b = refl
 causes-append (r ∷ a) b = ap (r .refusal ∷_) (causes-append a b)
-
-clash : {A : Type 0} → true ≡ false → A
-clash e = absurd (subst T e tt)
 
 not-cons : {A : Type 0} (before after : List Refusal) (refusal : Refusal) → [] ≡ before ++ (refusal ∷ after) → A
 not-cons [] after refusal e = let z : _≡_ {A = ℕ} 0 1 = cc in absurd (omega arith)
@@ -90,7 +87,7 @@ module _ (Says : Refusal → Type 0) where
             record { before = r .refusal ∷ d .before; after = d .after; split = ap (r .refusal ∷_) (d .split); kept = (tell .0 .0 h, d .kept); broken = d .broken }
         go rest false h e =
             let same : r .refusal ≡ refusal = cc in
-            record { before = []; after = causes rules; split = ap (_∷ causes rules) same; kept = tt; broken = λ says. clash (sym (tell .0 .1 (subst Says (sym same) says)) ∙ h) }
+            record { before = []; after = causes rules; split = ap (_∷ causes rules) same; kept = tt; broken = λ says. clash (sym h ∙ tell .0 .1 (subst Says (sym same) says)) }
 
     pub offence-refused : (rules : List Rule) (refusal : Refusal) → TestsTell Says rules →
         (before after : List Refusal) → causes rules ≡ before ++ (refusal ∷ after) → AllKept Says before → (Says refusal → ⊥) → firstBroken count rules ≡ Refused refusal

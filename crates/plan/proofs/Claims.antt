@@ -6,7 +6,6 @@ use Prim.Native.Nat.{ℕ, _≤_}
 use lib.ListN.{length}
 use Rattle.model.specs.declared.answer.Answer.{Answer}
 use Rattle.model.specs.declared.answer.Answer.the-variants.{Done, Refused}
-use Rattle.model.specs.declared.answer.Refusal.{Refusal}
 use Rattle.model.specs.Answer.{outputAfter}
 use Rattle.model.specs.Rules.{allHold, roomRules}
 use Rattle.model.proofs.Output.{only-counted-front}
@@ -20,7 +19,8 @@ use Rattle.fit.specs.declared.state.Fitted.{Fitted}
 use Rattle.fit.specs.declared.state.Placing.{Placing}
 use Rattle.fit.specs.Claims.{RefusedIn}
 use Rattle.fit.proofs.Built.{fitted-is-refused}
-use Rattle.plan.specs.Plan.{fittedOf, fitRules, sizeOf, fittedRules, planRules, planAnswer, Plans}
+use Rattle.fit.specs.Recorded.{fittedOf}
+use Rattle.plan.specs.Plan.{fitRules, sizeOf, fittedRules, planRules, planAnswer, Plans}
 use Rattle.plan.specs.Claims.{RefusedForItsCause, PlansOnlyCountedFront, SoundIsPlanned, PlanningUnique}
 use Rattle.plan.proofs.Rules.{plan-fitted, fit-stop, fit-on}
 

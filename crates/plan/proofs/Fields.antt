@@ -18,14 +18,14 @@ use Rattle.build.specs.Trip.{ZeroPast}
 use Rattle.demand.specs.Priority.{rank}
 use Rattle.demand.proofs.Priority.{rank-less}
 use Rattle.demand.proofs.Meaning.{every-verdict-means}
+use Rattle.demand.proofs.Within.{limits-sound}
 use Rattle.fit.specs.declared.state.Placing.{Placing}
 use Rattle.fit.specs.declared.state.Fitted.{Fitted}
 use Rattle.fit.specs.Steps.{goingOn, refusing, firstFit}
-use Rattle.fit.specs.Recorded.{buildOf, memberOf as recordOf}
+use Rattle.fit.specs.Recorded.{buildOf, memberOf as recordOf, fittedOf}
 use Rattle.fit.specs.Claims.{Built}
-use Rattle.fit.proofs.Claims.{sound, places, one-of-two}
+use Rattle.fit.proofs.Claims.{places, one-of-two}
 use Rattle.fit.proofs.Built.{fitted-done, fitted-refused, fitted-is-built}
-use Rattle.plan.specs.Plan.{fittedOf}
 
 -- the partition numbers that a build records
 abbrev pub recordedPartitions : Build → List ℕ
@@ -73,7 +73,7 @@ module _ (o : Order) (limits : WithinLimits o) {count : ℕ} (done : fittedOf o 
         each-place = λ i below. record { volume = omega (arith, p .inside i below, limits .processors); first = omega (arith, p .inside i below, p .volume-least i below, limits .processors) };
         each-member = λ i below.
             (let here : i < o .tasks = omega (arith, built .tasks) in
-            let passing = every-verdict-means (o .table) (recordedPartitions b) (o .tasks) i (sound o limits) here .passes _ .0 (built .responses i here) in
+            let passing = every-verdict-means (o .table) (recordedPartitions b) (o .tasks) i (limits-sound o limits) here .passes _ .0 (built .responses i here) in
             record {
               partition = omega (arith, p .in-one i here, recorded i here, p .few, limits .tasks);
               rank = omega (arith, built .ranks i here, rank-less (o .table) (recordedPartitions b) (o .tasks) i here, limits .tasks);

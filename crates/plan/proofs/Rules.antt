@@ -2,14 +2,14 @@
 use mathlib.Core.Path.{_≡_}
 use mathlib.Core.List.{List}
 use Prim.Native.Nat.{ℕ}
-use Rattle.model.specs.declared.answer.Answer.{Answer}
 use Rattle.model.specs.declared.answer.Answer.the-variants.{Done, Refused}
 use Rattle.model.specs.declared.answer.Refusal.{Refusal}
 use Rattle.model.specs.Rules.{firstBroken, allHold, roomRules}
 use Rattle.model.proofs.Rules.{pass, stop, any-count}
 use Rattle.order.specs.Order.{orderAt, orderRules}
 use Rattle.fit.specs.declared.state.Fitted.{Fitted}
-use Rattle.plan.specs.Plan.{fittedOf, sizeOf, fittedRules, planRules, planAnswer}
+use Rattle.fit.specs.Recorded.{fittedOf}
+use Rattle.plan.specs.Plan.{sizeOf, fittedRules, planRules, planAnswer}
 
 -- first fit's own answer, among the rules
 pub fit-stop : (count : ℕ) (found : Fitted) (room : ℕ) {refusal : Refusal} → found .answer ≡ Refused refusal → firstBroken count (fittedRules found room) ≡ Refused refusal

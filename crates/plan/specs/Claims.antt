@@ -13,7 +13,8 @@ use Rattle.model.specs.Rules.{BrokenFirst}
 use Rattle.order.specs.Order.{orderAt, readOrder}
 use Rattle.fit.specs.declared.state.Placing.{Placing}
 use Rattle.fit.specs.Claims.{RefusedIn}
-use Rattle.plan.specs.Plan.{fittedOf, sizeOf, planRules, Plans}
+use Rattle.fit.specs.Recorded.{fittedOf}
+use Rattle.plan.specs.Plan.{sizeOf, planRules, Plans}
 
 -- "for that cause only": its own rule is broken, and every earlier rule holds
 abbrev pub RefusedForItsCause : Type 0

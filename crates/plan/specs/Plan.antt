@@ -4,7 +4,6 @@ use mathlib.Core.Path.{_≡_}
 use mathlib.Core.Bool.{false}
 use mathlib.Core.List.{List, [], _∷_, _++_}
 use lib.ListN.{length}
-use Rattle.model.specs.declared.order.Order.{Order}
 use Rattle.model.specs.declared.build.Build.{Build}
 use Rattle.model.specs.declared.answer.Answer.{Answer}
 use Rattle.model.specs.declared.answer.Answer.the-variants.{Done, Refused}
@@ -14,11 +13,7 @@ use Rattle.model.specs.Rules.{Rule, rule, firstBroken, roomRules}
 use Rattle.order.specs.Order.{orderAt, orderRules}
 use Rattle.build.specs.Build.{buildBytes}
 use Rattle.fit.specs.declared.state.Fitted.{Fitted}
-use Rattle.fit.specs.Recorded.{fitted}
-
--- "An order's build is the one that first fit by decreasing volume gives"
-abbrev pub fittedOf : Order → Fitted
-fittedOf o = fitted (o .table) (o .tasks) (o .processors)
+use Rattle.fit.specs.Recorded.{fittedOf}
 
 -- 11: "first fit runs out", with the task that it names
 abbrev pub fitRules : Answer → List Rule
@@ -33,7 +28,7 @@ sizeOf b = buildLength (b .partitions) (b .tasks)
 unfoldable pub fittedRules : Fitted → ℕ → List Rule
 fittedRules found room = fitRules (found .answer) ++ roomRules (sizeOf (found .build)) room
 
--- "then task by task 7 to 10; then 11, then 12"
+-- "then task by task 7 to 10; then 11, then 12"; "An order's build is the one that first fit by decreasing volume gives"
 unfoldable pub planRules : List ℕ → ℕ → List Rule
 planRules order room = orderRules order ++ fittedRules (fittedOf (orderAt order)) room
 

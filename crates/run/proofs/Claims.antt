@@ -27,7 +27,7 @@ use Rattle.finish.proofs.Finish.{every-job-finishes}
 use Rattle.finish.proofs.Apart.{runs-apart}
 use Rattle.events.proofs.Prepare.{bytes-short}
 use Rattle.run.specs.Run.{runRules, runAnswer, runTicks, runOutput, Ran}
-use Rattle.run.specs.Claims.{RunSays, RunDoneExactly, OneAnswer, OneOutcome, OnlyFront, EachFinish, WritesFinishes, RunsIsolated, EmptyScript}
+use Rattle.run.specs.Claims.{RunSays, RunDoneExactly, OneAnswer, RunningUnique, OnlyFront, EachFinish, WritesFinishes, RunsIsolated, EmptyScript}
 use Rattle.run.proofs.Says.{run-in-turn}
 
 module _ (order build script : List ℕ) (places : ℕ) where
@@ -67,8 +67,8 @@ one-answer order build script places answer =
     let tell = run-in-turn order build script places in
     (right-answer (RunSays order build script places) (recordsIn script) rules tell answer, answer-right (RunSays order build script places) (recordsIn script) rules tell answer)
 
-pub one-outcome : OneOutcome
-one-outcome order build script out one other after after′ a b = (a .answers ∙ sym (b .answers), a .leaves ∙ sym (b .leaves))
+pub running-unique : RunningUnique
+running-unique order build script out one other after after′ a b = (a .answers ∙ sym (b .answers), a .leaves ∙ sym (b .leaves))
 
 ticks-length : (order build script : List ℕ) → length (runTicks order build script) ≡ recordsIn script
 unfolding runTicks finishTicks

@@ -7,6 +7,7 @@ use mathlib.Core.Logic.{_↔_}
 use lib.ListN.{length}
 use Rattle.laws.specs.Joined.{joined}
 use Rattle.model.specs.declared.answer.Refusal.{Refusal}
+use Rattle.model.specs.Answer.{causeNumber}
 use Rattle.model.specs.Rules.{Rule, rangeRules}
 use Rattle.model.specs.Stated.{TestsTell}
 use Rattle.model.proofs.Stated.{tell-append}
@@ -37,7 +38,7 @@ are-joined b f zero each = tt
 are-joined b f (suc n) each = are-append b (joined f n) (f n) (are-joined b f n each) (each n)
 
 check-are : (order build : List ℕ) → AllAre false (checkRules order build)
-unfolding AllAre ofScript checkRules orderRules layoutRules headerRules spareRules rangeRules buildRules buildLayoutRules recordRules partitionRules widthRules rankRules testRules verdictRules
+unfolding AllAre ofScript causeNumber checkRules orderRules layoutRules headerRules spareRules rangeRules buildRules buildLayoutRules recordRules partitionRules widthRules rankRules testRules verdictRules
 check-are order build =
     let o = orderAt order in
     let b = buildAt build in
@@ -54,7 +55,7 @@ check-are order build =
     are-append false (orderRules order) (buildRules o build) one (are-append false (buildLayoutRules o build (buildHeaderOf build)) (recordRules o b) (refl, (refl, (refl, (refl, tt)))) records)
 
 script-are : (order script : List ℕ) (places : ℕ) → AllAre true (scriptRules (orderAt order .table) (orderAt order .tasks) script places)
-unfolding AllAre ofScript scriptRules releaseRulesAt releaseRules
+unfolding AllAre ofScript causeNumber scriptRules releaseRulesAt releaseRules
 script-are order script places = (refl, (refl, are-joined true (releaseRulesAt (orderAt order .table) (orderAt order .tasks) script) (recordsIn script) (λ i. (refl, (refl, (refl, (refl, (refl, tt))))))))
 
 module _ (order build script : List ℕ) (places : ℕ) where

@@ -4,12 +4,12 @@ use mathlib.Core.Path.{_≡_}
 use mathlib.Core.Bool.{Bool, true, false}
 use mathlib.Core.List.{List, []}
 use mathlib.Core.Logic.{_↔_}
+use lib.Dec.{leb}
 use lib.ListN.{getD}
 use Rattle.model.specs.declared.answer.Answer.{Answer}
 use Rattle.model.specs.declared.answer.Answer.the-variants.{Done}
 use Rattle.model.specs.declared.answer.Refusal.{Refusal}
-use Rattle.model.specs.declared.answer.Refusal.the-variants.{OrderShort, OrderVersion, Processors, Tasks, OrderLength, HeaderSpare, TaskSpare, Width, Period, Deadline, RunTime, FirstFit, Output, Columns, BuildShort, BuildHeader, BuildLength, BuildSpare, PartitionPlace, TaskPartition, Rank, Window, Start, Late, Response, ScriptLength, RecordSpare, RecordTask, RecordOrder, JobLength, ReleaseGap, FinishPlaces}
-use Rattle.model.specs.Answer.{OnlyCountedFront}
+use Rattle.model.specs.Answer.{causeNumber, OnlyCountedFront}
 use Rattle.model.specs.Stated.{causes, RightAnswer}
 use Rattle.order.specs.Order.{orderAt}
 use Rattle.build.specs.Build.{buildAt}
@@ -27,38 +27,7 @@ use Rattle.run.specs.Run.{runRules, runAnswer, Ran}
 
 -- 40 to 46 are a script's; the others are the check's
 unfoldable pub ofScript : Refusal → Bool
-ofScript OrderShort = false
-ofScript OrderVersion = false
-ofScript Processors = false
-ofScript Tasks = false
-ofScript OrderLength = false
-ofScript HeaderSpare = false
-ofScript (TaskSpare i) = false
-ofScript (Width i) = false
-ofScript (Period i) = false
-ofScript (Deadline i) = false
-ofScript (RunTime i) = false
-ofScript (FirstFit i) = false
-ofScript Output = false
-ofScript Columns = false
-ofScript BuildShort = false
-ofScript BuildHeader = false
-ofScript BuildLength = false
-ofScript BuildSpare = false
-ofScript (PartitionPlace i) = false
-ofScript (TaskPartition i) = false
-ofScript (Rank i) = false
-ofScript (Window i) = false
-ofScript (Start i) = false
-ofScript (Late i) = false
-ofScript (Response i) = false
-ofScript ScriptLength = true
-ofScript (RecordSpare i) = true
-ofScript (RecordTask i) = true
-ofScript (RecordOrder i) = true
-ofScript (JobLength i) = true
-ofScript (ReleaseGap i) = true
-ofScript FinishPlaces = true
+ofScript refusal = leb 40 (causeNumber refusal)
 
 abbrev pub either : Bool → Type 0 → Type 0 → Type 0
 either true one other = one
@@ -79,9 +48,10 @@ abbrev pub OneAnswer : Type 0
 OneAnswer = (order build script : List ℕ) (places : ℕ) (answer : Answer) →
     (answer ≡ runAnswer order build script places) ↔ RightAnswer (RunSays order build script places) (recordsIn script) (causes (runRules order build script places)) answer
 
--- ".. and content of the caller's memory"
-abbrev pub OneOutcome : Type 0
-OneOutcome = (order build script out : List ℕ) (one other : Answer) (after after′ : List ℕ) → Ran order build script out one after → Ran order build script out other after′ → (one ≡ other) × (after ≡ after′)
+-- one possible answer and content for every input
+abbrev pub RunningUnique : Type 0
+RunningUnique = (order build script out : List ℕ) (one other : Answer) (after after′ : List ℕ)
+    → Ran order build script out one after → Ran order build script out other after′ → (one ≡ other) × (after ≡ after′)
 
 -- "On refusal the output is unchanged; on success only the counted front changes."
 abbrev pub OnlyFront : Type 0

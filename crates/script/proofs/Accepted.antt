@@ -6,9 +6,10 @@ use mathlib.Core.Logic.{inl, inr}
 use Prim.Native.Nat.{ℕ, zero, suc, _+_, _%_, _≤_, _<_}
 use native.Mathlib.Omega.{arith}
 use lib.ListN.{length}
-use lib.Dec.{ltb, eqb, T}
+use lib.Dec.{ltb, eqb}
 use borrow.Author.Tests.{lt-ltb, ltb-true, eq-eqb, eqb-true, le-leb, leb-true}
 use Rattle.laws.proofs.Choice.{within-true, true-within}
+use Rattle.laws.proofs.Every.{and-both}
 use Rattle.model.specs.declared.order.Task.{Task}
 use Rattle.model.specs.declared.build.Release.{Release}
 use Rattle.model.specs.Limits.{mostRecords, scriptLength}
@@ -21,10 +22,6 @@ use Rattle.script.specs.Script.{releaseAt, spareAt, recordsIn, scriptOf,
 use Rattle.script.specs.Accepted.{Accepted, RulesOfScripts}
 use Rattle.script.proofs.Records.{script-length, script-record, Far, far-earliest, earliest-far}
 
-pub both-true : (a b : Bool) → (a && b) ≡ true → (a ≡ true) × (b ≡ true)
-both-true true b e = (refl, e)
-both-true false b e = absurd (subst T (sym e) tt)
-
 -- the test of the order is `Before`
 pub before-true : (r s : Release) → comesBefore r s ≡ true → Before r s
 unfolding comesBefore
@@ -32,7 +29,7 @@ before-true r s e = go (ltb (r .tick) (s .tick)) refl e
   where
     go : (b : Bool) → ltb (r .tick) (s .tick) ≡ b → (b || (eqb (r .tick) (s .tick) && ltb (r .task) (s .task))) ≡ true → Before r s
     go true h x = inl (ltb-true _ _ h)
-    go false h x = let y = both-true _ _ x in inr (eqb-true _ _ (y .0), ltb-true _ _ (y .1))
+    go false h x = let y = and-both _ _ x in inr (eqb-true _ _ (y .0), ltb-true _ _ (y .1))
 
 or-true : (b : Bool) → (b || true) ≡ true
 or-true true = refl
@@ -137,7 +134,7 @@ module _ (table : List Task) (n : ℕ) (s : List ℕ) (places : ℕ) where
   pub rules-accepted : allHold (scriptRules table n s places) → Accepted table n s places
   unfolding scriptRules allHold recordsIn
   rules-accepted all =
-      let size = both-true _ _ (all .0) in
+      let size = and-both _ _ (all .0) in
       let whole = eqb-true (length s % 6) 0 (size .0) in
       let most = leb-true (length s) (scriptLength mostRecords) (size .1) in
       let each : (i : ℕ) → i < recordsIn s → RecordRight table n s i = λ i l. record-right table n s i (scan-at (recordRules table n s) (recordsIn s) i l (all .1 .1)) in

@@ -12,6 +12,7 @@ use lib.ListN.{length}
 use borrow.Author.Tests.{lt-ltb, ltb-true, eq-eqb, eqb-true, eqb-false, le-leb, leb-true}
 use Rattle.laws.specs.Choice.{pick}
 use Rattle.laws.proofs.Choice.{within-true, true-within}
+use Rattle.laws.proofs.Every.{and-both}
 use Rattle.model.specs.declared.order.Task.{Task}
 use Rattle.model.specs.declared.build.Release.{Release}
 use Rattle.model.specs.Limits.{mostRecords, scriptLength}
@@ -22,15 +23,15 @@ use Rattle.machine.specs.Pattern.{runOf, Before}
 use Rattle.script.specs.Script.{releaseAt, spareAt, recordsIn, inOrder, earliest, releaseRules, recordRules, scriptRules, lengthRight}
 use Rattle.script.specs.Meaning.{WholeRecords, AfterPrevious, FarEnough, ScriptSays}
 use Rattle.script.specs.Accepted.{ScriptRefusedExactly}
-use Rattle.script.proofs.Accepted.{both-true, before-true, true-before}
+use Rattle.script.proofs.Accepted.{before-true, true-before}
 
-whole-tells : (s : List ℕ) → (lengthRight s ≡ true) ↔ WholeRecords s
+pub whole-tells : (s : List ℕ) → (lengthRight s ≡ true) ↔ WholeRecords s
 unfolding recordsIn
 whole-tells s = (forth, back)
   where
     forth : lengthRight s ≡ true → WholeRecords s
     forth e =
-        let x = both-true _ _ e in
+        let x = and-both _ _ e in
         let whole = eqb-true (length s % 6) 0 (x .0) in
         let most = leb-true (length s) (scriptLength mostRecords) (x .1) in
         record { whole = omega arith; few = omega arith }

@@ -87,9 +87,13 @@ module _ (work : ℕ → ℕ) (grows : Grows work) (B T C D : ℕ) (ranges : Ran
       (met-never (windowOver work B T C) 1
       (window-none work grows B T C period-least (ranges .cost-least) (λ s a l. within-none work B horizon e s l)))
 
+  pub first-near : (w : ℕ) → firstMet (startOver work B) 0 ≡ At w → w ≤ horizon
+  first-near w e = met-says (startOver work B) 0 (omega arith) (At w) e .upto
+
   -- the window's search may go on from the first job's end
-  pub after-first : (limit w : ℕ) → startWithin work B limit ≡ At w → (s : ℕ) → 1 ≤ s → s < w + C → s < windowOver work B T C s
-  after-first limit w e = window-after work grows B T C period-least (ranges .cost-least) w (within-at work B limit w e .earlier)
+  pub after-first : (w : ℕ) → firstMet (startOver work B) 0 ≡ At w → (s : ℕ) → 1 ≤ s → s < w + C → s < windowOver work B T C s
+  after-first w e =
+      window-after work grows B T C period-least (ranges .cost-least) w (λ s l. met-says (startOver work B) 0 (omega arith) (At w) e .earlier s (omega arith) l)
 
   response-at : (q w : ℕ) → firstMet (startOver work (B + q * C)) 0 ≡ At w → responseOver work B T C q ≡ At (w + C - q * T)
   unfolding responseOver

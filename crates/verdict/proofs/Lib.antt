@@ -1,2 +1,2 @@
-pub mod Overfull
+pub mod Slopes
 pub mod Judged

@@ -1,5 +1,4 @@
 // The jobs of a window, one by one, each held against its deadline.
-use crate::shares;
 use crate::starts;
 use crate::windows;
 use demand::Verdict;
@@ -7,13 +6,16 @@ use model::Order;
 use model::Task;
 use search::Found;
 ghost use mathlib.Core.Path.{_≡_};
-ghost use Rattle.demand.specs.Test.{doesPass};
-ghost use Rattle.demand.specs.Packed.{Fits, Ranges, Opens, packedWork, verdictOver};
+ghost use Rattle.search.specs.declared.Found.the-variants.{At};
+ghost use Rattle.demand.specs.Test.{firstMet, doesPass};
+ghost use Rattle.demand.specs.Packed.{Ranges, Opens, packedWork, startOver, verdictOver};
+ghost use Rattle.verdict.specs.Shares.{Shared};
 
 // The verdict in a window of the length, whose first job is in time: until a job is late.
 fn later_jobs(
     periods: &[u64; Order::MOST_TASKS],
     costs: &[u64; Order::MOST_TASKS],
+    shares: &[u64; Order::MOST_TASKS],
     count: usize,
     blocking: u64,
     period: u64,
@@ -22,7 +24,7 @@ fn later_jobs(
     length: u64,
     first: u64,
 ) -> Verdict
-    requires { ⌜ Fits (now periods) (now costs) count × Ranges blocking period cost deadline × Opens (packedWork (now periods) (now costs) count) blocking period cost deadline length first ⌝ }
+    requires { ⌜ Shared (now periods) (now costs) (now shares) count × Ranges blocking period cost deadline × Opens (packedWork (now periods) (now costs) count) blocking period cost deadline length first ⌝ }
     ensures { λ r. ⌜ r ≡ verdictOver (packedWork (now (periods .entry)) (now (costs .entry)) count) blocking period cost deadline ⌝ }
 {
     let mut most: u64 = first + cost;
@@ -32,7 +34,8 @@ fn later_jobs(
         let release = job * period;
         let base = blocking + job * cost;
         let limit = release + deadline - cost;
-        let Found::At(start) = starts::start_from(periods, costs, count, base, from, limit) else {
+        let Found::At(start) = starts::start_from(periods, costs, shares, count, base, from, limit)
+        else {
             return Verdict::Late;
         };
         most = demand::larger(most, start + cost - release);
@@ -42,29 +45,32 @@ fn later_jobs(
     Verdict::Passes(most as u32)
 }
 
-// The verdict over packed members. Each search goes on from the one before it.
-pub fn judge(
+// The verdict from the first start on: the window, then its jobs.
+fn from_first(
     periods: &[u64; Order::MOST_TASKS],
     costs: &[u64; Order::MOST_TASKS],
+    shares: &[u64; Order::MOST_TASKS],
     count: usize,
     blocking: u64,
     period: u64,
     cost: u64,
     deadline: u64,
+    first: u64,
 ) -> Verdict
-    requires { ⌜ Fits (now periods) (now costs) count × Ranges blocking period cost deadline ⌝ }
+    requires { ⌜ Shared (now periods) (now costs) (now shares) count × Ranges blocking period cost deadline × (firstMet (startOver (packedWork (now periods) (now costs) count) blocking) 0 ≡ At first) ⌝ }
     ensures { λ r. ⌜ r ≡ verdictOver (packedWork (now (periods .entry)) (now (costs .entry)) count) blocking period cost deadline ⌝ }
 {
-    if shares::overfull(periods, costs, count, blocking, period, cost) {
-        return Verdict::NoWindow;
-    }
-    let Found::At(first) = starts::start_from(periods, costs, count, blocking, 0, Task::HORIZON)
-    else {
-        return Verdict::NoWindow;
-    };
     let end = first + cost;
-    let Found::At(length) = windows::window_from(periods, costs, count, blocking, period, cost, end)
-    else {
+    let Found::At(length) = windows::window_from(
+        periods,
+        costs,
+        shares,
+        count,
+        blocking,
+        period,
+        cost,
+        end,
+    ) else {
         return Verdict::NoWindow;
     };
     if deadline < end {
@@ -73,12 +79,48 @@ pub fn judge(
     later_jobs(
         periods,
         costs,
+        shares,
         count,
         blocking,
         period,
         cost,
         deadline,
         length,
+        first,
+    )
+}
+
+// The verdict over packed members. Each search goes on from the one before it.
+pub fn judge(
+    periods: &[u64; Order::MOST_TASKS],
+    costs: &[u64; Order::MOST_TASKS],
+    shares: &[u64; Order::MOST_TASKS],
+    count: usize,
+    blocking: u64,
+    period: u64,
+    cost: u64,
+    deadline: u64,
+) -> Verdict
+    requires { ⌜ Shared (now periods) (now costs) (now shares) count × Ranges blocking period cost deadline ⌝ }
+    ensures { λ r. ⌜ r ≡ verdictOver (packedWork (now (periods .entry)) (now (costs .entry)) count) blocking period cost deadline ⌝ }
+{
+    if windows::overfull(periods, costs, shares, count, blocking, period, cost) {
+        return Verdict::NoWindow;
+    }
+    let limit = Task::HORIZON;
+    let Found::At(first) = starts::start_from(periods, costs, shares, count, blocking, 0, limit)
+    else {
+        return Verdict::NoWindow;
+    };
+    from_first(
+        periods,
+        costs,
+        shares,
+        count,
+        blocking,
+        period,
+        cost,
+        deadline,
         first,
     )
 }
@@ -94,40 +136,37 @@ fn is_passing(verdict: Verdict) -> bool
     }
 }
 
-// Whether the verdict is to pass: the first job is held against its deadline before anything long.
+// Whether the verdict is to pass: where the shares are too many every search is long, and the first job is soon late.
 pub fn in_time(
     periods: &[u64; Order::MOST_TASKS],
     costs: &[u64; Order::MOST_TASKS],
+    shares: &[u64; Order::MOST_TASKS],
     count: usize,
     blocking: u64,
     period: u64,
     cost: u64,
     deadline: u64,
 ) -> bool
-    requires { ⌜ Fits (now periods) (now costs) count × Ranges blocking period cost deadline ⌝ }
+    requires { ⌜ Shared (now periods) (now costs) (now shares) count × Ranges blocking period cost deadline ⌝ }
     ensures { λ r. ⌜ r ≡ doesPass (verdictOver (packedWork (now (periods .entry)) (now (costs .entry)) count) blocking period cost deadline) ⌝ }
 {
-    let limit = deadline - cost;
-    let Found::At(first) = starts::start_from(periods, costs, count, blocking, 0, limit) else {
-        return false;
-    };
-    if shares::overfull(periods, costs, count, blocking, period, cost) {
+    if windows::overfull(periods, costs, shares, count, blocking, period, cost) {
         return false;
     }
-    let end = first + cost;
-    let Found::At(length) = windows::window_from(periods, costs, count, blocking, period, cost, end)
+    let limit = deadline - cost;
+    let Found::At(first) = starts::start_from(periods, costs, shares, count, blocking, 0, limit)
     else {
         return false;
     };
-    is_passing(later_jobs(
+    is_passing(from_first(
         periods,
         costs,
+        shares,
         count,
         blocking,
         period,
         cost,
         deadline,
-        length,
         first,
     ))
 }

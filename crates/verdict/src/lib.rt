@@ -1,5 +1,6 @@
 // The verdict on a member of a partition, by searches that jump and stop early; each shortcut is proved to change no answer.
 mod jobs;
+mod lines;
 mod shares;
 mod starts;
 mod windows;
@@ -26,11 +27,21 @@ pub fn verdict(
     let periods = higher.periods;
     let costs = higher.costs;
     let count = higher.count;
+    let shares = shares::shares_of(&periods, &costs, count);
     let mine = table[task];
     let period = demand::wide(mine.period);
     let cost = demand::cost_of(mine);
     let deadline = demand::wide(mine.deadline);
-    jobs::judge(&periods, &costs, count, blocking, period, cost, deadline)
+    jobs::judge(
+        &periods,
+        &costs,
+        &shares,
+        count,
+        blocking,
+        period,
+        cost,
+        deadline,
+    )
 }
 
 // Whether it passes, which is often known sooner.
@@ -48,9 +59,19 @@ pub fn passes(
     let periods = higher.periods;
     let costs = higher.costs;
     let count = higher.count;
+    let shares = shares::shares_of(&periods, &costs, count);
     let mine = table[task];
     let period = demand::wide(mine.period);
     let cost = demand::cost_of(mine);
     let deadline = demand::wide(mine.deadline);
-    jobs::in_time(&periods, &costs, count, blocking, period, cost, deadline)
+    jobs::in_time(
+        &periods,
+        &costs,
+        &shares,
+        count,
+        blocking,
+        period,
+        cost,
+        deadline,
+    )
 }

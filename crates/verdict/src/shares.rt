@@ -1,56 +1,34 @@
-// The share of a processor that a member and the higher ones take: where it is more than the whole, no window closes.
+// The share of a processor that a task takes.
 use model::Order;
 ghost use mathlib.Core.Path.{_≡_};
-ghost use mathlib.Core.Bool.{true};
 ghost use Prim.Native.Nat.{_≤_};
-ghost use Rattle.search.specs.declared.Found.the-variants.{Nothing};
-ghost use Rattle.demand.specs.Test.{firstMet};
-ghost use Rattle.demand.specs.Packed.{Fits, packedWork, windowOver};
-ghost use Rattle.verdict.specs.Shares.{shareOf, packedShares};
+ghost use Rattle.demand.specs.Packed.{Fits};
+ghost use Rattle.verdict.specs.Shares.{shareOf, Shared};
 
-// In parts of 26,771,144,400, which every number up to 25 divides.
-fn share(period: u64, cost: u64) -> u64
+// The parts of a whole processor: every number up to 25 divides them.
+pub const WHOLE: u64 = 26_771_144_400;
+
+pub fn share(period: u64, cost: u64) -> u64
     requires { ⌜ (1 ≤ period) × (cost ≤ 1_000_000) ⌝ }
     ensures { λ r. ⌜ r ≡ shareOf period cost ⌝ }
 {
-    cost * 26_771_144_400 / period
+    cost * WHOLE / period
 }
 
-fn all_shares(
+// The shares of packed members, divided once for all searches.
+pub fn shares_of(
     periods: &[u64; Order::MOST_TASKS],
     costs: &[u64; Order::MOST_TASKS],
     count: usize,
-) -> u64
+) -> [u64; Order::MOST_TASKS]
     requires { ⌜ Fits (now periods) (now costs) count ⌝ }
-    ensures { λ r. ⌜ r ≡ packedShares (now (periods .entry)) (now (costs .entry)) count ⌝ }
+    ensures { λ r. ⌜ Shared (now (periods .entry)) (now (costs .entry)) r count ⌝ }
 {
-    let mut sum: u64 = 0;
+    let mut shares = [0u64; Order::MOST_TASKS];
     let mut other: usize = 0;
     while other < count {
-        sum = sum + share(periods[other], costs[other]);
+        shares[other] = share(periods[other], costs[other]);
         other += 1;
     }
-    sum
-}
-
-// Whether the shares alone show that no window closes; false says nothing.
-pub fn overfull(
-    periods: &[u64; Order::MOST_TASKS],
-    costs: &[u64; Order::MOST_TASKS],
-    count: usize,
-    blocking: u64,
-    period: u64,
-    cost: u64,
-) -> bool
-    requires { ⌜ Fits (now periods) (now costs) count × (1 ≤ period) × (cost ≤ 1_000_000) ⌝ }
-    ensures { λ r. ⌜ (r ≡ true → firstMet (windowOver (packedWork (now (periods .entry)) (now (costs .entry)) count) blocking period cost) 1 ≡ Nothing) ⌝ }
-{
-    let all = share(period, cost) + all_shares(periods, costs, count);
-    if 26_771_144_400 < all {
-        return true;
-    }
-    if all == 26_771_144_400 {
-        return 0 < blocking;
-    }
-    false
+    shares
 }

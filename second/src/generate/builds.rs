@@ -3,7 +3,7 @@
 use super::damage::Section;
 use super::random::Random;
 use crate::build::{Build, Partition, Seat};
-use crate::order::{Order, Task};
+use crate::order::Order;
 use crate::response::Roster;
 
 /// A build with sound ranks, and sound responses where the members pass.
@@ -37,7 +37,7 @@ fn sensible(random: &mut Random, order: &Order) -> Vec<Roster> {
         random.shuffle(&mut rosters);
         let mut takers = rosters.iter_mut().filter_map(|roster| {
             let joined = roster.with(i, order.tasks[i]);
-            passes(&joined).then_some((roster, joined))
+            joined.all_pass(i, &mut ()).then_some((roster, joined))
         });
         if let Some((roster, joined)) = takers.next() {
             *roster = joined;
@@ -47,17 +47,6 @@ fn sensible(random: &mut Random, order: &Order) -> Vec<Roster> {
         }
     }
     rosters
-}
-
-/// Whether all members pass.
-fn passes(roster: &Roster) -> bool {
-    !overfull(&roster.tasks) && roster.responses(&mut ()).is_ok()
-}
-
-/// Whether tasks ask for more than all ticks, so that searching for a window is idle.
-fn overfull(tasks: &[Task]) -> bool {
-    let shares = tasks.iter().map(|task| f64::from(task.c) / f64::from(task.t));
-    shares.sum::<f64>() > 1.000_001
 }
 
 /// Any task in any of a few partitions.
@@ -127,10 +116,7 @@ fn seats(random: &mut Random, order: &Order, rosters: &[Roster]) -> Vec<Seat> {
     let mut seats = vec![Seat::default(); order.tasks.len()];
     for (partition, roster) in rosters.iter().enumerate() {
         for (rank, &i) in roster.numbers.iter().enumerate() {
-            let response = match overfull(&roster.tasks[..=rank]) {
-                true => None,
-                false => roster.response(rank, &mut ()).ok(),
-            };
+            let response = roster.response(rank, &mut ()).ok();
             seats[i] = Seat {
                 partition: partition as u32,
                 rank: rank as u32,

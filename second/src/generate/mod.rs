@@ -4,8 +4,10 @@ pub mod builds;
 pub mod cases;
 pub mod damage;
 pub mod orders;
+pub mod papers;
 pub mod random;
 pub mod scripts;
+pub mod slow;
 
 use crate::order::Task;
 

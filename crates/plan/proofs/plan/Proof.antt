@@ -13,7 +13,8 @@ use Rattle.order.specs.Order.{orderAt, orderRules, readOrder}
 use Rattle.order.proofs.Reading.{read-answer, read-rules, read-order, within-limits}
 use Rattle.build.specs.Build.{buildBytes, FieldsFit}
 use Rattle.fit.specs.declared.state.Fitted.{Fitted}
-use Rattle.plan.specs.Plan.{fittedOf, sizeOf}
+use Rattle.fit.specs.Recorded.{fittedOf}
+use Rattle.plan.specs.Plan.{sizeOf}
 use Rattle.plan.proofs.Rules.{fit-stop, fit-on, plan-order, plan-fitted}
 use Rattle.plan.proofs.Fields.{fields-fit}
 use Rattle.plan.proofs.plan.Statement.{statement}

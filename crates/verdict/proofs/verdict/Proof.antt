@@ -11,6 +11,12 @@ blocking-requires c κs = search needs
 pack-higher-requires : tie.Need-pack-higher-requires
 pack-higher-requires c κs = search needs
 
+shares-of-requires : tie.Need-shares-of-requires
+shares-of-requires c κs = let s = c .before .before .before .before .before .before in
+    let a = s .args in
+    let h = c .before .before .before .before .pack-higher in
+    packs-fit (a .t1) (a .partitions) (a .tasks) (a .task) (s .pre .0) (s .pre .1) (h .result .periods) (h .result .costs) (h .result .count) (h .ensures)
+
 mul-mine : tie.Need-mul-mine
 mul-mine c = search needs
 
@@ -21,21 +27,21 @@ wide-requires : tie.Need-wide-requires
 wide-requires c κs = search needs
 
 cost-of-requires : tie.Need-cost-of-requires
-cost-of-requires c κs = let s = c .before .before .before .before .before .before in s .pre .0 .each _ (s .pre .1)
+cost-of-requires c κs = let s = c .before .before .before .before .before .before .before .before .before in s .pre .0 .each _ (s .pre .1)
 
 wide-requires-2 : tie.Need-wide-requires-2
 wide-requires-2 c κs = search needs
 
 judge-requires : tie.Need-judge-requires
-judge-requires c κs = let s = c .before .before .before .before .before .before .before .before .before .before in
+judge-requires c κs = let k = c .before .before .before .before .before .before .before in
+    let s = k .before .before .before .before .before .before .before in
     let a = s .args in
-    let h = c .before .before .before .before .before .before .before .before .pack-higher in
     let g = ranges (a .t1) (a .partitions) (a .tasks) (a .task) (s .pre .0) (s .pre .1) in
-    let b = c .before .before .before .before .before .before .before .before .before .blocking .ensures in
-    let t = c .before .before .before .before .wide .ensures in
-    let k = c .before .before .before .cost-of .ensures in
-    let d = c .before .before .wide2 .ensures in (
-      packs-fit (a .t1) (a .partitions) (a .tasks) (a .task) (s .pre .0) (s .pre .1) (h .result .periods) (h .result .costs) (h .result .count) (h .ensures),
+    let b = k .before .before .before .before .before .before .blocking .ensures in
+    let t = c .before .before .before .before .before .wide .ensures in
+    let e = c .before .before .before .before .cost-of .ensures in
+    let d = c .before .before .before .wide2 .ensures in (
+      k .shares-of .ensures,
       record {
         blocking-most = omega (arith, g .blocking-most);
         cost-least = omega (arith, g .cost-least);
@@ -46,13 +52,14 @@ judge-requires c κs = let s = c .before .before .before .before .before .before
     )
 
 returns : tie.Need-returns
-returns c = let s = c .before .before .before .before .before .before .before .before .before .before .before in
+returns c = let m = c .before .before .before .before .before .before .before .before in
+    let s = m .before .before .before .before .before .before .before in
     let a = s .args in
-    let h = c .before .before .before .before .before .before .before .before .before .pack-higher in
-    let b = c .before .before .before .before .before .before .before .before .before .before .blocking in
-    let t = c .before .before .before .before .before .wide in
-    let k = c .before .before .before .before .cost-of in
-    let d = c .before .before .before .wide2 in
+    let h = m .before .before .before .before .before .pack-higher in
+    let b = m .before .before .before .before .before .before .blocking in
+    let t = c .before .before .before .before .before .before .wide in
+    let k = c .before .before .before .before .before .cost-of in
+    let d = c .before .before .before .before .wide2 in
     c .judge .ensures
     ∙ packed-verdict (a .t1) (a .partitions) (a .tasks) (a .task) (s .pre .0) (s .pre .1) (h .result .periods) (h .result .costs) (h .result .count) (h .ensures)
     (b .result) (t .result) (k .result) (d .result) (b .ensures) (t .ensures) (k .ensures) (d .ensures)
@@ -63,6 +70,7 @@ verdict-spec =
     (tie.spec
     blocking-requires
     pack-higher-requires
+    shares-of-requires
     mul-mine
     array-copy-out-mine
     wide-requires

@@ -11,13 +11,13 @@ use Rattle.verdict.proofs.jobs.later_jobs.Statement.{statement}
 use Rattle.verdict.proofs.jobs.later_jobs.Tie as tie
 
 abbrev Inv-loop : tie.InvT-loop
-Inv-loop periods costs count blocking period cost deadline length first most₀ from₀ job₀ most from job = Jobs (packedWork periods costs count) blocking period cost deadline length most from job
+Inv-loop periods costs shares count blocking period cost deadline length first most₀ from₀ job₀ most from job = Jobs (packedWork periods costs count) blocking period cost deadline length most from job
 
 abbrev μ-loop : tie.MeasureT-loop
-μ-loop periods costs count blocking period cost deadline length first most₀ from₀ job₀ most from job = length + period - job * period
+μ-loop periods costs shares count blocking period cost deadline length first most₀ from₀ job₀ most from job = length + period - job * period
 
 grows : (s : tie.Start Inv-loop μ-loop) → let a = s .args in Grows (packedWork (a .periods .now) (a .costs .now) (a .count))
-grows s = let a = s .args in packed-grows (a .periods .now) (a .costs .now) (a .count) (s .pre .0 .period-least)
+grows s = let a = s .args in packed-grows (a .periods .now) (a .costs .now) (a .count) (s .pre .0 .fits .period-least)
 
 -- the window ends by the horizon
 near : (s : tie.Start Inv-loop μ-loop) → s .args .length ≤ 1_000_000
@@ -118,8 +118,8 @@ loop-again c = let k = c .before in
     (jobs-next (packedWork (a .periods .now) (a .costs .now) (a .count)) (grows s) (a .blocking) (a .period) (a .cost) (a .deadline) (s .pre .1) (a .length) (s .pre .2 .window) (l .most) (l .from) (l .job) (k .before .start .given .0 .0)
     (k .before .before .before .before .loop-test .taken) (l .inv) (found k))
 
-cast-t21 : tie.Need-cast-t21 Inv-loop μ-loop
-cast-t21 c = let r = c .before .before .pre .1 in omega (arith, c .before .loop .inv .in-time, r .deadline-most, r .period-most)
+cast-t22 : tie.Need-cast-t22 Inv-loop μ-loop
+cast-t22 c = let r = c .before .before .pre .1 in omega (arith, c .before .loop .inv .in-time, r .deadline-most, r .period-most)
 
 returns-2 : tie.Need-returns-2 Inv-loop μ-loop
 returns-2 c = let s = c .before .before in
@@ -154,5 +154,5 @@ later-jobs-spec =
     add-job
     loop-less
     loop-again
-    cast-t21
+    cast-t22
     returns-2)

@@ -1,76 +1,81 @@
 use native.Mathlib.Omega.{arith}
 use mathlib.Core.Path.{sym}
-use Prim.Native.Nat.{_≤_, _-_}
-use Rattle.search.proofs.Jump.{Under, jump, stop-at, stop-none}
+use Prim.Native.Nat.{_≤_, _-_, _+_}
+use Rattle.search.proofs.Jump.{Under, stop-at, stop-none}
 use Rattle.model.specs.Limits.{horizon}
 use Rattle.demand.specs.Test.{firstMet}
 use Rattle.demand.specs.Packed.{packedWork, windowOver}
-use Rattle.demand.proofs.Releases.{product-le}
-use Rattle.demand.proofs.Packed.{packed-most, packed-grows}
-use Rattle.demand.proofs.Over.{window-grows}
+use Rattle.demand.proofs.Packed.{packed-grows}
+use Rattle.verdict.proofs.Slopes.{Small, together-small, window-on}
 use borrow.Author.Needs.{needs}
 use Rattle.verdict.proofs.windows.window_from.Statement.{statement}
 use Rattle.verdict.proofs.windows.window_from.Tie as tie
 
 abbrev Inv-loop : tie.InvT-loop
-Inv-loop periods costs count blocking period cost from t₀ t = (1 ≤ t) × Under (windowOver (packedWork periods costs count) blocking period cost) 1 t
+Inv-loop periods costs shares count blocking period cost from t₀ reach₀ t reach = (1 ≤ t) × Under (windowOver (packedWork periods costs count) blocking period cost) 1 t
 
 abbrev μ-loop : tie.MeasureT-loop
-μ-loop periods costs count blocking period cost from t₀ t = 1_000_001 - t
+μ-loop periods costs shares count blocking period cost from t₀ reach₀ t reach = 1_000_001 - t
 
 loop-holds : tie.Need-loop-holds Inv-loop μ-loop
 loop-holds c = (c .pre .4, c .pre .5)
 
-sub-last : tie.Need-sub-last Inv-loop μ-loop
-sub-last c = search needs
+sub-asked-with : tie.Need-sub-asked-with Inv-loop μ-loop
+sub-asked-with c = search needs
 
-released-work-requires : tie.Need-released-work-requires Inv-loop μ-loop
-released-work-requires c κs = search needs
+asked-with-requires : tie.Need-asked-with-requires Inv-loop μ-loop
+asked-with-requires c κs = search needs
 
-add-own : tie.Need-add-own Inv-loop μ-loop
-add-own c = let s = c .before .before .before in
+small :
+    (c : tie.After-asked-with Inv-loop μ-loop) →
+    let r = c .asked-with .result in
+    Small (c .before .before .before .args .count + 1) (r .all) (r .rest) (r .slope)
+small c =
+    let s = c .before .before .before in
     let a = s .args in
-    let t = c .before .before .loop .t in
-    omega (arith, c .released-work .ensures, product-le (t - 1) (a .period) (a .cost) (omega arith) (s .pre .3))
+    let r = c .asked-with .result in
+    together-small (a .periods .now) (a .costs .now) (a .count) (a .period) (a .cost) (c .before .before .loop .t - 1) (s .pre .0 .fits) (s .pre .2) (r .all) (r .rest) (r .slope) (s .pre .3) (omega arith) (c .asked-with .ensures)
 
-work-requires : tie.Need-work-requires Inv-loop μ-loop
-work-requires c κs = search needs
-
-add-asked : tie.Need-add-asked Inv-loop μ-loop
-add-asked c = let s = c .before .before .before .before in
-    let a = s .args in
-    let t = c .before .before .before .loop .t in
-    omega (
-      arith,
-      c .before .released-work .ensures,
-      c .work .ensures,
-      product-le (t - 1) (a .period) (a .cost) (omega arith) (s .pre .3),
-      packed-most (a .periods .now) (a .costs .now) (a .count) (t - 1) (omega arith) (s .pre .0 .cost-most),
-      s .pre .0 .few,
-    )
+add-total : tie.Need-add-total Inv-loop μ-loop
+add-total c = omega (arith, small (c .before) .all-most, c .before .before .before .before .pre .0 .fits .few)
 
 returns : tie.Need-returns Inv-loop μ-loop
 unfolding firstMet windowOver
-returns c = let a = c .before .before .before .before .before .args in
-    let l = c .before .before .before .before .loop in
+returns c = let k = c .before .before in
+    let a = k .before .before .before .args in
+    let l = k .before .before .loop in
     sym
-    (stop-at (windowOver (packedWork (a .periods .now) (a .costs .now) (a .count)) (a .blocking) (a .period) (a .cost)) 1 horizon (l .t) (l .inv .0) (c .before .before .before .loop-test .taken) (l .inv .1)
-    (omega (arith, c .before .work .ensures, c .before .before .released-work .ensures)))
+    (stop-at (windowOver (packedWork (a .periods .now) (a .costs .now) (a .count)) (a .blocking) (a .period) (a .cost)) 1 horizon (l .t) (l .inv .0) (k .before .loop-test .taken) (l .inv .1)
+    (omega (arith, k .asked-with .ensures .by)))
+
+add-line : tie.Need-add-line Inv-loop μ-loop
+add-line c = let k = c .before .before .before in omega (arith, small k .rest-most, k .before .before .before .pre .0 .fits .few)
+
+line-requires : tie.Need-line-requires Inv-loop μ-loop
+line-requires c κs = let k = c .before .before .before in omega (arith, small k .rest-most, k .before .before .before .pre .0 .fits .few)
+
+larger-requires : tie.Need-larger-requires Inv-loop μ-loop
+larger-requires c κs = search needs
+
+sub-reach : tie.Need-sub-reach Inv-loop μ-loop
+sub-reach c = omega (arith, c .larger .ensures, c .before .before .before .if1 .left)
+
+mul-reach : tie.Need-mul-reach Inv-loop μ-loop
+mul-reach c = let k = c .before .before .before .before .before in omega (arith, c .larger .ensures, c .before .line .ensures .1, small k .all-most, k .before .before .before .pre .0 .fits .few)
 
 loop-less : tie.Need-loop-less Inv-loop μ-loop
-loop-less c = search needs
+loop-less c = omega (arith, c .larger .ensures, c .before .before .before .if1 .left)
 
 loop-again : tie.Need-loop-again Inv-loop μ-loop
-unfolding windowOver
-loop-again c = let s = c .before .before .before .before .before in
+loop-again c = let k = c .before .before .before .before .before in
+    let s = k .before .before .before in
     let a = s .args in
-    let l = c .before .before .before .before .loop in
-    let work = packedWork (a .periods .now) (a .costs .now) (a .count) in (
-      omega arith,
-      rw (c .before .work .ensures, c .before .before .released-work .ensures)
-          (jump (windowOver work (a .blocking) (a .period) (a .cost)) 1
-          (λ x y from le. window-grows work (packed-grows (a .periods .now) (a .costs .now) (a .count) (s .pre .0 .period-least)) (a .blocking) (a .period) (a .cost) (s .pre .2) x y from le)
-          (l .t) (l .inv .0) (l .inv .1)),
+    let l = k .before .before .loop in
+    let r = k .asked-with .result in (
+      omega (arith, c .larger .ensures, c .before .before .before .if1 .left),
+      rw (c .larger .ensures)
+          (window-on (packedWork (a .periods .now) (a .costs .now) (a .count)) (packed-grows (a .periods .now) (a .costs .now) (a .count) (s .pre .0 .fits .period-least)) (a .blocking) (a .period) (a .cost) (s .pre .2) (l .t) (r .all) (r .rest) (r .slope) (c .before .line .result)
+          (l .inv .0) (k .asked-with .ensures) (c .before .line .ensures .0) (l .inv .1)),
     )
 
 returns-2 : tie.Need-returns-2 Inv-loop μ-loop
@@ -86,12 +91,15 @@ window-from-spec =
     Inv-loop
     μ-loop
     loop-holds
-    sub-last
-    released-work-requires
-    add-own
-    work-requires
-    add-asked
+    sub-asked-with
+    asked-with-requires
+    add-total
     returns
+    add-line
+    line-requires
+    larger-requires
+    sub-reach
+    mul-reach
     loop-less
     loop-again
     returns-2)

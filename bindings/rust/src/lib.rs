@@ -1,0 +1,114 @@
+//! The planner of camera boxes for Rust: the five operations of the proved library libjefkantu.a.
+//!
+//! ```
+//! use jefkantu::{plan, run, write_order, write_script, Build, Order, Release, Task};
+//!
+//! let tasks = vec![
+//!     Task { width: 2, period: 10, deadline: 10, run: 4 },
+//!     Task { width: 1, period: 14, deadline: 13, run: 4 },
+//! ];
+//! let order = write_order(&Order { processors: 2, tasks })?;
+//! let build = plan(&order)?;
+//! let responses: Vec<u32> = Build::read(&order, &build)?.tasks.iter().map(|it| it.response).collect();
+//! assert_eq!(responses, [7, 8]);
+//!
+//! let releases = [Release { tick: 0, task: 1, length: 4 }, Release { tick: 1, task: 0, length: 4 }];
+//! let script = write_script(&releases).expect("each number fits its field");
+//! assert_eq!(run(&order, &build, &script)?, [4, 8]);
+//! # Ok::<(), jefkantu::Refusal>(())
+//! ```
+#![deny(missing_docs, unsafe_code)]
+
+mod build;
+mod order;
+mod refusal;
+mod script;
+#[allow(unsafe_code)]
+mod surface;
+
+pub use build::{Build, Partition, Seat};
+pub use order::{Columns, Order, Task};
+pub use refusal::{Cause, Refusal};
+pub use script::{write_script, Release};
+
+use refusal::answer;
+
+/// The README's Rust is compiled and run too.
+#[cfg(doctest)]
+#[doc = include_str!("../../../README.md")]
+struct Readme;
+
+/// Reads an order: 1 to 6 in turn, then task by task 7 to 10.
+pub fn read_order(order: &[u8]) -> Result<Order, Refusal> {
+    let mut numbers = [0; Order::NUMBERS];
+    answer(surface::read_order(order, &mut numbers))?;
+    Ok(Order::of_numbers(&numbers))
+}
+
+/// Writes an order: 3, 4, then task by task 7 to 10.
+pub fn write_order(order: &Order) -> Result<Vec<u8>, Refusal> {
+    filled(Order::MOST_BYTES, |out| write_order_into(order, out))
+}
+
+/// Writes an order into the front of the caller's buffer, and answers its length; 12 where it is too short.
+pub fn write_order_into(order: &Order, out: &mut [u8]) -> Result<usize, Refusal> {
+    let column = |field: fn(&Task) -> u32| order.tasks.iter().map(field).collect::<Vec<_>>();
+    let columns = Columns {
+        widths: &column(|task| task.width),
+        periods: &column(|task| task.period),
+        deadlines: &column(|task| task.deadline),
+        runs: &column(|task| task.run),
+    };
+    write_columns_into(order.processors, &columns, out)
+}
+
+/// The writer itself, given M and four columns: 13, 3, 4, then task by task 7 to 10, then 12.
+pub fn write_columns_into(
+    processors: u32,
+    columns: &Columns,
+    out: &mut [u8],
+) -> Result<usize, Refusal> {
+    answer(surface::write_order(processors, columns, out))
+}
+
+/// Plans an order and gives its build: the order's 1 to 10, then 11.
+pub fn plan(order: &[u8]) -> Result<Vec<u8>, Refusal> {
+    filled(Build::MOST_BYTES, |out| plan_into(order, out))
+}
+
+/// Plans an order into the front of the caller's buffer, and answers the build's length: 1 to 10, 11, then 12.
+pub fn plan_into(order: &[u8], out: &mut [u8]) -> Result<usize, Refusal> {
+    answer(surface::plan(order, out))
+}
+
+/// Checks a build against an order: the order's 1 to 10, then 20 to 30.
+pub fn check(order: &[u8], build: &[u8]) -> Result<(), Refusal> {
+    answer(surface::check(order, build)).map(drop)
+}
+
+/// Runs a script through a build and gives each record's finish tick: the check, 40, then record by record 41 to 45.
+pub fn run(order: &[u8], build: &[u8], script: &[u8]) -> Result<Vec<u32>, Refusal> {
+    let records = Release::MOST_RECORDS.min(script.len() / Release::BYTES);
+    filled(records, |out| run_into(order, build, script, out))
+}
+
+/// Runs a script, its finish ticks into the front of the caller's buffer, and answers their count; 46 after 40.
+pub fn run_into(
+    order: &[u8],
+    build: &[u8],
+    script: &[u8],
+    out: &mut [u32],
+) -> Result<usize, Refusal> {
+    answer(surface::run(order, build, script, out))
+}
+
+/// What a call writes into the front of a buffer with enough room.
+fn filled<T: Clone + Default>(
+    room: usize,
+    call: impl FnOnce(&mut [T]) -> Result<usize, Refusal>,
+) -> Result<Vec<T>, Refusal> {
+    let mut out = vec![T::default(); room];
+    let count = call(&mut out)?;
+    out.truncate(count);
+    Ok(out)
+}

@@ -1,0 +1,47 @@
+-- The claims of specs/Claims.antt, proved.
+use mathlib.Core.Path.{sym, _∙_}
+use lib.ListN.{length}
+use Rattle.jefkantu.specs.Word.{WordTells}
+use Rattle.jefkantu.specs.Claims.{ReadUnique, WriteUnique, PlanUnique, CheckUnique, RunUnique, ReadTells, WriteTells, PlanTells, CheckTells, RunTells}
+use Rattle.jefkantu.proofs.Word.{word-tells}
+use Rattle.jefkantu.proofs.Places.{read-fits, write-fits, plan-fits, check-fits, run-fits}
+
+pub read-unique : ReadUnique
+unfolding ReadUnique
+read-unique order numbers word other after others r s = (r .answered ∙ sym (s .answered), r .written ∙ sym (s .written))
+
+pub write-unique : WriteUnique
+unfolding WriteUnique
+write-unique processors widths periods deadlines runs output word other after others r s = (r .answered ∙ sym (s .answered), r .written ∙ sym (s .written))
+
+pub plan-unique : PlanUnique
+unfolding PlanUnique
+plan-unique order output word other after others r s = (r .answered ∙ sym (s .answered), r .written ∙ sym (s .written))
+
+pub check-unique : CheckUnique
+unfolding CheckUnique
+check-unique order build word other r s = r ∙ sym s
+
+pub run-unique : RunUnique
+unfolding RunUnique
+run-unique order build script output word other after others r s = (r .answered ∙ sym (s .answered), r .written ∙ sym (s .written))
+
+pub read-tells : ReadTells
+unfolding ReadTells WordTells
+read-tells order numbers word after r = word-tells _ (read-fits order) word (r .answered)
+
+pub write-tells : WriteTells
+unfolding WriteTells WordTells
+write-tells processors widths periods deadlines runs output word after r = word-tells _ (write-fits processors widths periods deadlines runs (length output)) word (r .answered)
+
+pub plan-tells : PlanTells
+unfolding PlanTells WordTells
+plan-tells order output word after r = word-tells _ (plan-fits order (length output)) word (r .answered)
+
+pub check-tells : CheckTells
+unfolding CheckTells WordTells
+check-tells order build word r = word-tells _ (check-fits order build) word r
+
+pub run-tells : RunTells
+unfolding RunTells WordTells
+run-tells order build script output word after r = word-tells _ (run-fits order build script (length output)) word (r .answered)

@@ -1,0 +1,54 @@
+-- Of each function of the C surface: one possible outcome for every input, and a word that tells the answer; proved in proofs/Claims.antt.
+use Prim.Native.Nat.{ℕ}
+use mathlib.Core.Path.{_≡_}
+use mathlib.Core.List.{List}
+use lib.ListN.{length}
+use Rattle.order.specs.Order.{readOrder}
+use Rattle.order_out.specs.Write.{writeAnswer}
+use Rattle.plan.specs.Plan.{planAnswer}
+use Rattle.inspect.specs.Rules.{checkAnswer}
+use Rattle.run.specs.Run.{runAnswer}
+use Rattle.jefkantu.specs.Word.{Tells}
+use Rattle.jefkantu.specs.Surface.{ReadsOrder, WritesOrder}
+use Rattle.jefkantu.specs.Builds.{PlansBuild, ChecksBuild}
+use Rattle.jefkantu.specs.Runs.{RunsScript}
+
+-- "the statement leaves one possible number, place, count and content of the caller's memory"
+unfoldable pub ReadUnique : Type 0
+ReadUnique = (order numbers : List ℕ) (word other : ℕ) (after others : List ℕ) → ReadsOrder order numbers word after → ReadsOrder order numbers other others →
+    (word ≡ other) × (after ≡ others)
+
+unfoldable pub WriteUnique : Type 0
+WriteUnique = (processors : ℕ) (widths periods deadlines runs output : List ℕ) (word other : ℕ) (after others : List ℕ) →
+    WritesOrder processors widths periods deadlines runs output word after → WritesOrder processors widths periods deadlines runs output other others →
+    (word ≡ other) × (after ≡ others)
+
+unfoldable pub PlanUnique : Type 0
+PlanUnique = (order output : List ℕ) (word other : ℕ) (after others : List ℕ) → PlansBuild order output word after → PlansBuild order output other others →
+    (word ≡ other) × (after ≡ others)
+
+-- the check is handed no memory to write
+unfoldable pub CheckUnique : Type 0
+CheckUnique = (order build : List ℕ) (word other : ℕ) → ChecksBuild order build word → ChecksBuild order build other → word ≡ other
+
+unfoldable pub RunUnique : Type 0
+RunUnique = (order build script output : List ℕ) (word other : ℕ) (after others : List ℕ) →
+    RunsScript order build script output word after → RunsScript order build script output other others → (word ≡ other) × (after ≡ others)
+
+-- "Every answer has a number, a place and a count": all three come out of the word, whatever the input
+unfoldable pub ReadTells : Type 0
+ReadTells = (order numbers : List ℕ) (word : ℕ) (after : List ℕ) → ReadsOrder order numbers word after → Tells word (readOrder order .answer)
+
+unfoldable pub WriteTells : Type 0
+WriteTells = (processors : ℕ) (widths periods deadlines runs output : List ℕ) (word : ℕ) (after : List ℕ) →
+    WritesOrder processors widths periods deadlines runs output word after → Tells word (writeAnswer processors widths periods deadlines runs (length output))
+
+unfoldable pub PlanTells : Type 0
+PlanTells = (order output : List ℕ) (word : ℕ) (after : List ℕ) → PlansBuild order output word after → Tells word (planAnswer order (length output))
+
+unfoldable pub CheckTells : Type 0
+CheckTells = (order build : List ℕ) (word : ℕ) → ChecksBuild order build word → Tells word (checkAnswer order build)
+
+unfoldable pub RunTells : Type 0
+RunTells = (order build script output : List ℕ) (word : ℕ) (after : List ℕ) →
+    RunsScript order build script output word after → Tells word (runAnswer order build script (length output))

@@ -1,0 +1,77 @@
+-- P9: the machine, computed; the build passes the check because it is the one that is planned.
+use Prim.Native.Nat.{ℕ, _≤_}
+use mathlib.Core.Path.{_≡_, refl, sym, ap, _∙_, subst}
+use mathlib.Core.List.{List, _++_}
+use native.Mathlib.Omega.{arith}
+use borrow.Author.Tests.{le-leb}
+use lib.ListN.{length, drop}
+use Rattle.laws.specs.Joined.{joined as laid}
+use Rattle.search.specs.Smallest.{smallest, firstOf}
+use Rattle.bits.specs.Field.{bitAt, field}
+use Rattle.model.specs.declared.build.Release.{Release}
+use Rattle.model.specs.declared.answer.Answer.the-variants.{Done}
+use Rattle.model.specs.Answer.{outputAfter}
+use Rattle.model.specs.Rules.{firstBroken}
+use Rattle.model.proofs.Rules.{done-hold}
+use Rattle.order.specs.Order.{readOrder}
+use Rattle.demand.specs.Priority.{outranks}
+use Rattle.build.specs.Build.{buildHeaderOf, partitionAt, memberAt, buildAt}
+use Rattle.machine.specs.Step.{ended, released, ofMembers, joined, better, highest, replaced, oldestStarts, starts, startsIfFree, duringTick, passed, step, stateBefore}
+use Rattle.machine.specs.Pattern.{patternOf, LegalScript}
+use Rattle.machine.specs.Box.{memberOf}
+use Rattle.plan.specs.Plan.{Plans}
+use Rattle.inspect.specs.Rules.{partitionsOf, checkAnswer}
+use Rattle.agree.proofs.Agree.{planned-is-accepted}
+use Rattle.script.specs.Script.{releaseAt, spareAt, recordsIn, scriptOf, comesBefore, inOrder, earliest, releaseRules, recordRules, scriptRules}
+use Rattle.script.proofs.Accepted.{rules-accepted}
+use Rattle.finish.specs.Finish.{usedUp, finishFound, finishOf, finishTicks}
+use Rattle.run.specs.Run.{Ran}
+use Rattle.run.proofs.Chain.{ran-on}
+use Rattle.points.specs.Sample.{sampleOn, sampleOrder, sampleBuildOn, sampleBuild, sampleReleases, sampleScript, sampleFinishes}
+use Rattle.points.specs.Points.{P9}
+use Rattle.points.proofs.Gives.{done-is, order-is}
+
+build-read : buildAt sampleBuild ≡ sampleBuildOn 4
+unfolding buildAt buildHeaderOf partitionAt memberAt laid field bitAt
+build-read = refl
+
+script-read : scriptOf sampleScript ≡ sampleReleases
+unfolding scriptOf recordsIn releaseAt laid field bitAt
+script-read = refl
+
+finish : finishTicks (sampleOn 4 .table) (partitionsOf (sampleBuildOn 4)) 3 sampleReleases ≡ sampleFinishes
+unfolding finishTicks finishOf finishFound usedUp smallest firstOf stateBefore step duringTick startsIfFree ended passed starts oldestStarts highest better joined released ofMembers replaced memberOf outranks patternOf laid partitionsOf
+finish = refl
+
+-- 40 to 46 hold
+script-done : (places : ℕ) → 3 ≤ places → firstBroken 3 (scriptRules (sampleOn 4 .table) 3 sampleScript places) ≡ Done 3
+unfolding firstBroken scriptRules recordRules releaseRules inOrder comesBefore earliest recordsIn releaseAt spareAt laid field bitAt
+script-done places room = rw (le-leb 3 places room)
+
+legal : LegalScript (sampleOn 4 .table) 3 sampleReleases
+legal =
+    subst (LegalScript (sampleOn 4 .table) 3) script-read
+    (rules-accepted (sampleOn 4 .table) 3 sampleScript 3 (done-hold 3 (scriptRules (sampleOn 4 .table) 3 sampleScript 3) (script-done 3 (omega arith))) .legal)
+
+-- the sample order read, and planned
+module _ (reads : readOrder sampleOrder ≡ record { answer = Done 0; order = sampleOn 4 }) (plans : Plans sampleOrder sampleBuild (Done 19) sampleBuild) where
+  checked : checkAnswer sampleOrder sampleBuild ≡ Done 0
+  checked = planned-is-accepted sampleOrder sampleBuild (Done 19) sampleBuild 19 plans refl
+
+  ran : (output : List ℕ) → 3 ≤ length output → Ran sampleOrder sampleBuild sampleScript output (Done 3) (sampleFinishes ++ drop 3 output)
+  unfolding recordsIn outputAfter
+  ran output room =
+      let ticks : List Release → List ℕ = finishTicks (sampleOn 4 .table) (partitionsOf (sampleBuildOn 4)) 3 in
+      let written : ticks (scriptOf sampleScript) ≡ sampleFinishes = ap ticks script-read ∙ finish in
+      ran-on sampleOrder sampleBuild sampleScript output {o = sampleOn 4} {partitions = partitionsOf (sampleBuildOn 4)} checked (sym (order-is sampleOrder (sampleOn 4) reads)) (ap partitionsOf (sym build-read))
+      (sym (script-done (length output) room)) (ap (λ (front : List ℕ). outputAfter (Done 3) front output) (sym written))
+
+  pub p9 : P9
+  p9 =
+      record {
+        build-read = build-read;
+        script-read = script-read;
+        legal = legal;
+        finish = finish;
+        runs = λ output room. record { answer = Done 3; ran = ran output room; answer-is = done-is 3 };
+      }

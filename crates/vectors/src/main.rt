@@ -1,0 +1,230 @@
+// Runs cases that the second program wrote: a line each with the answer, and all that the output then holds.
+ghost use Prim.Native.Nat.{_≤_};
+ghost use Rattle.io.specs.Counts.{Counts};
+
+// What the output holds before a call.
+const BYTE: u8 = 0xA5;
+
+const WORD: u32 = 0xA5A5_A5A5;
+
+// Room for orders, builds and scripts that are too long by some, and for outputs that are longer than needed.
+const MOST_BYTES: usize = 512;
+
+const MOST_ROWS: usize = 64;
+
+const MOST_SCRIPT: usize = 6_400;
+
+const MOST_TICKS: usize = 1_280;
+
+// The most cases in one input.
+const MOST_CASES: u32 = 65_536;
+
+fn put(number: u64) {
+    io::write_all(1, b" ");
+    io::print_decimal(1, number);
+}
+
+fn put_byte(byte: u8) {
+    io::write_all(1, b" ");
+    io::print_hex(1, byte as u64, 2);
+}
+
+fn put_word(word: u32) {
+    io::write_all(1, b" ");
+    io::print_hex(1, word as u64, 8);
+}
+
+fn end_line() {
+    io::write_all(1, b"\n");
+}
+
+// Number, place and count out of the one word.
+fn show_answer(call: &[u8], word: u64) {
+    io::write_all(1, call);
+    put(word % 65_536);
+    put(word / 65_536 % 65_536);
+    put(word / 4_294_967_296);
+}
+
+fn show_bytes(bytes: &[u8]) {
+    let mut i: usize = 0;
+    while i < bytes.len() {
+        put_byte(bytes[i]);
+        i += 1;
+    }
+    end_line();
+}
+
+fn show_words(words: &[u32]) {
+    let mut i: usize = 0;
+    while i < words.len() {
+        put_word(words[i]);
+        i += 1;
+    }
+    end_line();
+}
+
+// 0 past the end of the input.
+fn next_byte() -> u8 {
+    let mut byte = [0u8; 1];
+    io::read_full(0, &mut byte);
+    byte[0]
+}
+
+fn next_half() -> u16 {
+    let high = next_byte();
+    let low = next_byte();
+    high as u16 * 256 + low as u16
+}
+
+fn next_word() -> u32 {
+    let high = next_half();
+    let low = next_half();
+    high as u32 * 65_536 + low as u32
+}
+
+// A length, or 0 where there is less room.
+fn next_length(most: usize) -> usize
+    ensures { λ r. ⌜ r ≤ most ⌝ }
+{
+    let size = next_half() as usize;
+    if size <= most { size } else { 0 }
+}
+
+fn next_room(out: &[u8]) -> usize
+    ensures { λ r. ⌜ Counts r (now (out .entry)) ⌝ }
+{
+    next_length(out.len())
+}
+
+fn next_places(out: &[u32]) -> usize
+    ensures { λ r. ⌜ Counts r (now (out .entry)) ⌝ }
+{
+    next_length(out.len())
+}
+
+// A length, then so many bytes.
+fn next_bytes(bytes: &mut [u8]) -> usize
+    ensures { λ r. ⌜ Counts r (now (bytes .exit)) ⌝ }
+{
+    let size = next_length(bytes.len());
+    io::read_full(0, &mut bytes[..size])
+}
+
+// A length, then so many numbers of four bytes.
+fn next_column(column: &mut [u32]) -> usize
+    ensures { λ r. ⌜ Counts r (now (column .exit)) ⌝ }
+{
+    let size = next_length(column.len());
+    let mut i: usize = 0;
+    while i < size {
+        column[i] = next_word();
+        i += 1;
+    }
+    size
+}
+
+fn read_case() {
+    let mut order = [0u8; MOST_BYTES];
+    let size = next_bytes(&mut order);
+    let mut numbers = [WORD; 130];
+    let word = jefkantu::jefkantu_read_order(&order[..size], &mut numbers);
+    show_answer(b"read", word);
+    show_words(&numbers);
+}
+
+fn write_into(processors: u32, m: &[u32], t: &[u32], d: &[u32], c: &[u32], out: &mut [u8]) {
+    let word = jefkantu::jefkantu_write_order(processors, m, t, d, c, out);
+    show_answer(b"write", word);
+    show_bytes(out);
+}
+
+fn write_case() {
+    let processors = next_word();
+    let mut m = [0u32; MOST_ROWS];
+    let widths = next_column(&mut m);
+    let mut t = [0u32; MOST_ROWS];
+    let periods = next_column(&mut t);
+    let mut d = [0u32; MOST_ROWS];
+    let deadlines = next_column(&mut d);
+    let mut c = [0u32; MOST_ROWS];
+    let runs = next_column(&mut c);
+    let mut out = [BYTE; MOST_BYTES];
+    let room = next_room(&out);
+    write_into(
+        processors,
+        &m[..widths],
+        &t[..periods],
+        &d[..deadlines],
+        &c[..runs],
+        &mut out[..room],
+    );
+}
+
+fn plan_into(order: &[u8], out: &mut [u8]) {
+    let word = jefkantu::jefkantu_plan(order, out);
+    show_answer(b"plan", word);
+    show_bytes(out);
+}
+
+fn plan_case() {
+    let mut order = [0u8; MOST_BYTES];
+    let size = next_bytes(&mut order);
+    let mut out = [BYTE; MOST_BYTES];
+    let room = next_room(&out);
+    plan_into(&order[..size], &mut out[..room]);
+}
+
+fn check_case() {
+    let mut order = [0u8; MOST_BYTES];
+    let size = next_bytes(&mut order);
+    let mut build = [0u8; MOST_BYTES];
+    let length = next_bytes(&mut build);
+    let word = jefkantu::jefkantu_check(&order[..size], &build[..length]);
+    show_answer(b"check", word);
+    end_line();
+}
+
+fn run_into(order: &[u8], build: &[u8], script: &[u8], out: &mut [u32]) {
+    let word = jefkantu::jefkantu_run(order, build, script, out);
+    show_answer(b"run", word);
+    show_words(out);
+}
+
+fn run_case() {
+    let mut order = [0u8; MOST_BYTES];
+    let size = next_bytes(&mut order);
+    let mut build = [0u8; MOST_BYTES];
+    let length = next_bytes(&mut build);
+    let mut script = [0u8; MOST_SCRIPT];
+    let records = next_bytes(&mut script);
+    let mut out = [WORD; MOST_TICKS];
+    let places = next_places(&out);
+    run_into(
+        &order[..size],
+        &build[..length],
+        &script[..records],
+        &mut out[..places],
+    );
+}
+
+// Whether there was a case; its first byte names the operation.
+fn next_case() -> bool {
+    let operation = next_byte();
+    match operation {
+        1 => read_case(),
+        2 => write_case(),
+        3 => plan_case(),
+        4 => check_case(),
+        5 => run_case(),
+        _ => return false,
+    }
+    true
+}
+
+fn main() {
+    let mut left = MOST_CASES;
+    while left > 0 && next_case() {
+        left -= 1;
+    }
+}

@@ -1,0 +1,83 @@
+//! Looks for orders that are slow to plan or to check, by hill climbing over their numbers.
+//!
+//! `climb [plan|check] [SEED] [SECONDS]` climbs from the orders of slow.txt, then from random ones, and
+//! prints the worst order of each climb in that file's form.
+
+use second::build::{Build, Partition, Seat};
+use second::generate::random::Random;
+use second::generate::slow;
+use second::order::Order;
+use second::response::Roster;
+use second::{check_counting, plan_counting};
+use std::time::{Duration, Instant};
+
+/// A climb ends after so many changes in a row that did not help.
+const PATIENCE: u32 = 500;
+
+/// Counts the demand terms of an order.
+type Terms = fn(&Order) -> u64;
+
+fn plan_terms(order: &Order) -> u64 {
+    plan_counting(&order.bytes(), &mut [0; 195]).1
+}
+
+/// The terms of checking the build that has all in one partition, with sound ranks and responses.
+fn check_terms(order: &Order) -> u64 {
+    let mut all = Roster::default();
+    for (i, &task) in order.tasks.iter().enumerate() {
+        all.add(i, task);
+    }
+    let mut seats = vec![Seat::default(); order.tasks.len()];
+    for (rank, &i) in all.numbers.iter().enumerate() {
+        let response = all.response(rank, &mut ()).unwrap_or(0);
+        seats[i] = Seat { partition: 0, rank: rank as u32, response };
+    }
+    let processors = order.processors;
+    let partitions = vec![Partition { volume: processors, first: 0 }];
+    let build = Build { processors, partitions, seats };
+    check_counting(&order.bytes(), &build.bytes()).1
+}
+
+/// The worst of some random orders.
+fn seed(random: &mut Random, terms: Terms) -> Order {
+    let seeds = (0..40).map(|_| slow::seed(random));
+    seeds.max_by_key(terms).expect("40 seeds")
+}
+
+/// The worst order reached from one before the end.
+fn climb(random: &mut Random, from: Order, terms: Terms, end: Instant) -> (u64, Order) {
+    let mut top = (terms(&from), from);
+    let mut idle = 0;
+    while idle < PATIENCE && Instant::now() < end {
+        let order = slow::changed(random, &top.1);
+        let found = terms(&order);
+        idle = if found > top.0 { 0 } else { idle + 1 };
+        if found >= top.0 {
+            top = (found, order);
+        }
+    }
+    top
+}
+
+fn line(terms: u64, order: &Order) -> String {
+    let tasks = order.tasks.iter().map(|k| format!(" {},{},{},{}", k.m, k.t, k.d, k.c));
+    format!("{terms} {}{}", order.processors, tasks.collect::<String>())
+}
+
+fn main() {
+    let mut arguments = std::env::args().skip(1);
+    let terms: Terms = match arguments.next().as_deref() {
+        Some("check") => check_terms,
+        _ => plan_terms,
+    };
+    let mut number = |default| arguments.next().map_or(default, |n| n.parse().expect("a number"));
+    let (first_seed, seconds) = (number(1), number(60));
+    let end = Instant::now() + Duration::from_secs(seconds);
+    let mut random = Random::new(first_seed);
+    let mut known = slow::known().into_iter();
+    while Instant::now() < end {
+        let from = known.next().unwrap_or_else(|| seed(&mut random, terms));
+        let (found, order) = climb(&mut random, from, terms, end);
+        println!("{}", line(found, &order));
+    }
+}

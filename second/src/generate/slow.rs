@@ -1,0 +1,132 @@
+//! Orders that are slow to plan, for the search for slower ones.
+
+use super::random::Random;
+use crate::order::{Order, Task};
+
+fn task(t: u32, d: u32, c: u32) -> Task {
+    let t = t.clamp(1, Task::PERIOD);
+    let c = c.clamp(1, t);
+    Task { m: 1, t, d: d.clamp(c, t), c }
+}
+
+/// The orders of slow.txt, the slowest that were found: terms, M and the tasks as m,T,D,C.
+pub fn known() -> Vec<Order> {
+    let lines = include_str!("../../slow.txt").lines().filter(|line| !line.starts_with('#'));
+    let order = |line: &str| {
+        let mut words = line.split(' ').skip(1);
+        let number = |word: &str| word.parse().expect("a number");
+        let processors = words.next().map_or(0, number);
+        let task = |word: &str| {
+            let mut numbers = word.split(',').map(number);
+            let [m, t, d, c] = [(); 4].map(|()| numbers.next().unwrap_or(0));
+            Task { m, t, d, c }
+        };
+        Order { processors, tasks: words.map(task).collect() }
+    };
+    lines.map(order).collect()
+}
+
+/// A first order of one of several kinds; most have utilisation just under 1.
+pub fn seed(random: &mut Random) -> Order {
+    let n = match random.below(3) {
+        0 => random.between(2, 32),
+        _ => 32,
+    };
+    let mut tasks = match random.below(5) {
+        0 => chain(random),
+        1 => outranked(random),
+        2 => equal(random),
+        3 => lone(random),
+        _ => any(random),
+    };
+    let low = random.one_in(2);
+    while (tasks.len() as u32) < n {
+        let t = Task::PERIOD - random.spread(0, 1_000);
+        let d = if low { random.spread(1, t) } else { t };
+        tasks.push(task(t, d, random.spread(1, 4)));
+    }
+    random.shuffle(&mut tasks);
+    Order { processors: random.pick(&[1, 1, 2, 3]), tasks }
+}
+
+/// 1/2 + 1/3 + 1/7 + 1/43, at some scale, and a fifth that about fills the rest.
+fn chain(random: &mut Random) -> Vec<Task> {
+    let scale = if random.one_in(2) { 1 } else { random.spread(1, 40) };
+    let last = random.between(1_807, 2_200);
+    [2, 3, 7, 43, last].map(|t| task(t * scale, t * scale, scale)).to_vec()
+}
+
+/// A few tasks of full use with room for many that outrank them.
+fn outranked(random: &mut Random) -> Vec<Task> {
+    let base = random.between(20, 400);
+    let mut left = 1.0;
+    let mut next = |last: bool| {
+        let t = base * random.between(1, 6) + random.below(9);
+        let part = if last { left } else { left * f64::from(random.between(10, 90)) / 100.0 };
+        let c = ((f64::from(t) * part) as u32).max(1);
+        left = (left - f64::from(c) / f64::from(t)).max(0.0);
+        task(t, t, c)
+    };
+    vec![next(false), next(false), next(false), next(true)]
+}
+
+/// Many alike that fill most of their period, and one that about fills the rest.
+fn equal(random: &mut Random) -> Vec<Task> {
+    let k = random.between(2, 24);
+    let t = k + random.below(40);
+    let mut tasks: Vec<Task> = (0..k).map(|_| task(t, random.between(1, t), 1)).collect();
+    let times = random.between(2, 3_000);
+    tasks.push(task(t * times, t * times, (t - k) * times - random.below(3).min((t - k) * times)));
+    tasks
+}
+
+/// One that takes all or nearly all of a processor, above the others.
+fn lone(random: &mut Random) -> Vec<Task> {
+    let t = random.spread(1, 2_000);
+    vec![task(t, random.between(1, t), t - random.below(2).min(t - 1))]
+}
+
+/// Any few.
+fn any(random: &mut Random) -> Vec<Task> {
+    let k = random.between(2, 12);
+    let mut next = || {
+        let t = random.spread(2, Task::PERIOD);
+        task(t, random.spread(1, t), t / random.between(2, 12))
+    };
+    (0..k).map(|_| next()).collect()
+}
+
+/// The order with a few numbers changed.
+pub fn changed(random: &mut Random, order: &Order) -> Order {
+    let mut order = order.clone();
+    for _ in 0..random.between(1, 4) {
+        let n = order.tasks.len() as u32;
+        let (i, j) = (random.below(n) as usize, random.below(n) as usize);
+        let Task { t, d, c, .. } = order.tasks[i];
+        let by = random.spread(1, 100);
+        order.tasks[i] = match random.below(14) {
+            0 => task(t + 1, if d == t { d + 1 } else { d }, c),
+            1 => task(t - 1, d, c),
+            2 => task(t + by, d, c),
+            3 => task(t.saturating_sub(by), d, c),
+            4 => task(t, d, c + 1),
+            5 => task(t, d, c - 1),
+            6 => task(t, t, c),
+            7 => task(t, random.between(c, t), c),
+            8 => order.tasks[j],
+            9 => task(Task::PERIOD, Task::PERIOD, 1),
+            10 => task(random.spread(2, 2_000), Task::PERIOD, c),
+            11 => task(t, d + 1, c),
+            12 => task(t.saturating_mul(by + 1) / by, d, c.saturating_mul(by + 1) / by),
+            _ => task(t, d.saturating_sub(by), c),
+        };
+        match random.below(20) {
+            0 if n < 32 => order.tasks.push(order.tasks[j]),
+            1 if n > 2 => drop(order.tasks.remove(j)),
+            2 => order.processors = random.between(1, 3),
+            3 => order.tasks.swap(i, j),
+            _ => {}
+        }
+    }
+    order
+}
