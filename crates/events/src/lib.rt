@@ -59,16 +59,15 @@ fn tick_or_never(script: &[u8], records: usize, i: usize) -> u32
     requires { ⌜ records ≤ 1024 ⌝ }
     ensures { λ r. ⌜ r ≡ tickOrNever (tickAt (now (script .entry))) records i ⌝ }
 {
-    if i < records { script::read_tick(script, i) } else { NEVER }
+    if i < records {
+        script::read_tick(script, i)
+    } else {
+        NEVER
+    }
 }
 
 // The next release, or never; ahead is each task's first record that has not joined.
-fn next_release(
-    script: &[u8],
-    records: usize,
-    ahead: [u16; Order::MOST_TASKS],
-    tasks: usize,
-) -> u32
+fn next_release(script: &[u8], records: usize, ahead: [u16; Order::MOST_TASKS], tasks: usize) -> u32
     requires { ⌜ (records ≤ 1024) × (tasks ≤ 32) ⌝ }
     ensures { λ r. ⌜ Soonest (λ k. tickOrNever (tickAt (now (script .entry))) records (at ahead k)) tasks r ⌝ }
 {
@@ -109,12 +108,7 @@ fn next_end(machine: Machine, tick: u32) -> u32
     soonest
 }
 
-fn due_then(
-    script: &[u8],
-    records: usize,
-    i: usize,
-    tick: u32,
-) -> u32
+fn due_then(script: &[u8], records: usize, i: usize, tick: u32) -> u32
     requires { ⌜ records ≤ 1024 ⌝ }
     ensures { λ r. ⌜ r ≡ dueOf (tickAt (now (script .entry))) (lengthAt (now (script .entry))) records i tick ⌝ }
 {

@@ -150,7 +150,11 @@ fn oldest_then(oldest: u16, next: &[u16; Release::MOST], starts: usize, k: usize
     requires { ⌜ (starts ≡ k → oldest < 1024) ⌝ }
     ensures { λ r. ⌜ r ≡ oldestThen oldest (now (next .entry)) starts k ⌝ }
 {
-    if starts == k { next[oldest as usize] } else { oldest }
+    if starts == k {
+        next[oldest as usize]
+    } else {
+        oldest
+    }
 }
 
 impl Machine {
@@ -169,11 +173,7 @@ impl Machine {
     }
 
     // What runs in each partition goes on, or the oldest job of the task that starts begins; and a tick passes.
-    fn serve(
-        self,
-        starts: [usize; Build::MOST_PARTITIONS],
-        script: &[u8],
-    ) -> Machine
+    fn serve(self, starts: [usize; Build::MOST_PARTITIONS], script: &[u8]) -> Machine
         requires { ⌜ Sized self × ((p : ℕ) → p < 32 → at starts p < 32 → at (self .oldest) (at starts p) < 1024) ⌝ }
         ensures { λ r. ⌜ Served self starts (lengthAt (now (script .entry))) 32 r ⌝ }
     {
