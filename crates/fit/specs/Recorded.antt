@@ -17,10 +17,12 @@ responseOf NoWindow = 0
 responseOf NoStart = 0
 responseOf Late = 0
 
+abbrev pub memberBy : ℕ → ℕ → Verdict → Member
+memberBy partition rank found = record { partition = partition; rank = rank; response = responseOf found }
+
 -- task i with its partition, its rank there and its worst response
 unfoldable pub memberOf : List Task → List ℕ → ℕ → ℕ → Member
-memberOf table partitions n i =
-    record { partition = partitionOf partitions i; rank = rank table partitions n i; response = responseOf (verdict table partitions n i) }
+memberOf table partitions n i = memberBy (partitionOf partitions i) (rank table partitions n i) (verdict table partitions n i)
 
 unfoldable pub buildOf : List Task → ℕ → ℕ → Placing → Build
 buildOf table n M s =

@@ -9,12 +9,11 @@ use model::Member;
 use model::Order;
 use model::Task;
 ghost use mathlib.Core.Path.{_≡_};
-ghost use Prim.Native.Nat.{_≤_, _<_};
 ghost use Rattle.laws.specs.Joined.{filled};
 ghost use Rattle.model.specs.Limits.{zeroMember};
 ghost use Rattle.model.specs.Rules.{WithinLimits};
 ghost use Rattle.demand.specs.Test.{Sound};
-ghost use Rattle.fit.specs.Recorded.{responseOf, memberOf, buildOf, Fits};
+ghost use Rattle.fit.specs.Recorded.{responseOf, memberBy, memberOf, buildOf, Fits};
 
 fn response_of(verdict: Verdict) -> u32
     ensures { λ r. ⌜ r ≡ responseOf verdict ⌝ }
@@ -27,19 +26,13 @@ fn response_of(verdict: Verdict) -> u32
     }
 }
 
-fn member_of(
-    table: [Task; Order::MOST_TASKS],
-    partitions: [u32; Order::MOST_TASKS],
-    tasks: usize,
-    task: usize,
-) -> Member
-    requires { ⌜ Sound table tasks × (task < tasks) ⌝ }
-    ensures { λ r. ⌜ r ≡ memberOf table partitions tasks task ⌝ }
+fn member_of(partition: u32, rank: u32, found: Verdict) -> Member
+    ensures { λ r. ⌜ r ≡ memberBy partition rank found ⌝ }
 {
     Member {
-        partition: partitions[task],
-        rank: demand::rank(table, partitions, tasks, task),
-        response: response_of(verdict::verdict(table, partitions, tasks, task)),
+        partition,
+        rank,
+        response: response_of(found),
     }
 }
 
@@ -55,7 +48,9 @@ fn members_of(
     let mut members = [Member::zero(); Order::MOST_TASKS];
     let mut task: usize = 0;
     while task < tasks {
-        let member = member_of(table, partitions, tasks, task);
+        let rank = demand::rank(table, partitions, tasks, task);
+        let found = verdict::verdict(table, partitions, tasks, task);
+        let member = member_of(partitions[task], rank, found);
         members[task] = member;
         task += 1;
     }
