@@ -29,7 +29,7 @@ pub fn start_from(
             return Found::At(w);
         }
         let on = demand::larger(total, lines::line(base + asked.rest, asked.slope));
-        // Members much shorter than a jump are near their share.
+        // A guess: over a jump as long, members of shorter periods ask about their share.
         reach = 2 * (on - w);
         w = on;
     }
