@@ -136,7 +136,7 @@ fn is_passing(verdict: Verdict) -> bool
     }
 }
 
-// Whether the verdict is to pass: where the shares are too many every search is long, and the first job is soon late.
+// Whether the verdict is to pass: first by the shares, since above the whole every search is long, then by the first job, which is soon late.
 pub fn in_time(
     periods: &[u64; Order::MOST_TASKS],
     costs: &[u64; Order::MOST_TASKS],

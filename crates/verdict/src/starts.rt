@@ -31,7 +31,7 @@ pub fn start_from(
         // Of w + 1 ticks a start at w asks one more than the work, so the line may too.
         let line = lines::line(base + asked.rest + 1, asked.slope);
         let on = demand::larger(total + 1, line) - 1;
-        // Members much shorter than a jump are near their share.
+        // A guess: over a jump as long, members of shorter periods ask about their share.
         reach = 4 * (on - w);
         w = on;
     }

@@ -51,6 +51,7 @@ pub fn overfull(
     requires { ⌜ Shared (now periods) (now costs) (now shares) count × (1 ≤ period) × (cost ≤ 1_000_000) ⌝ }
     ensures { λ r. ⌜ (r ≡ true → firstMet (windowOver (packedWork (now (periods .entry)) (now (costs .entry)) count) blocking period cost) 1 ≡ Nothing) ⌝ }
 {
+    // No period is longer than the horizon, so the slope is the sum of all shares.
     let asked = asked_with(
         periods,
         costs,
@@ -93,6 +94,7 @@ pub fn window_from(
             return Found::At(t);
         }
         let on = demand::larger(total, lines::line(blocking + asked.rest, asked.slope));
+        // As for a start.
         reach = 4 * (on - t);
         t = on;
     }

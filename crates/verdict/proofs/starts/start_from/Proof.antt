@@ -44,13 +44,13 @@ returns c = let k = c .before .before in
     (omega (arith, k .asked-by .ensures .by)))
 
 add-line : tie.Need-add-line Inv-loop μ-loop
-add-line c = let k = c .before .before .before in omega (arith, small k .rest-most, k .before .before .before .pre .0 .fits .few)
+add-line c = let k = c .before .before .before in omega (arith, small k .all-most, small k .rest-most, k .before .before .before .pre .0 .fits .few)
 
 add-line-2 : tie.Need-add-line-2 Inv-loop μ-loop
 add-line-2 c = let k = c .before .before .before in omega (arith, small k .rest-most, k .before .before .before .pre .0 .fits .few)
 
 line-requires : tie.Need-line-requires Inv-loop μ-loop
-line-requires c κs = let k = c .before .before .before in omega (arith, small k .rest-most, k .before .before .before .pre .0 .fits .few)
+line-requires c κs = let k = c .before .before .before in omega (arith, small k .all-most, small k .rest-most, k .before .before .before .pre .0 .fits .few)
 
 add-larger : tie.Need-add-larger Inv-loop μ-loop
 add-larger c = let k = c .before .before .before .before in omega (arith, small k .all-most, k .before .before .before .pre .0 .fits .few)
