@@ -7,4 +7,5 @@ pub mod Largest
 pub mod Meaning
 pub mod Packed
 pub mod Membership
+pub mod Newcomer
 pub mod Within

@@ -25,6 +25,29 @@ unfolding largest
 largest-same f g zero same = refl
 largest-same f g (suc n) same = rw (largest-same f g n (λ j l. same j (omega arith)), same n (omega arith))
 
+-- the verdict looks at nothing but the higher members and the blocking
+module _ (table : List Task) (partitions others : List ℕ) (n i : ℕ) (higher-same : (j : ℕ) → j < n → higher table partitions i j ≡ higher table others i j) (blocking-same : blocking table partitions n i ≡ blocking table others n i) where
+  window-same : (t : ℕ) → windowDemand table partitions n i t ≡ windowDemand table others n i t
+  unfolding windowDemand
+  window-same t =
+      ap₂ (λ (x y : ℕ). x + y) blocking-same
+      (sum-same _ _ n (λ j l. ap (λ (b : Bool). only (eqb j i || b) (releasesIn t (periodOf table j) * costOf table j)) (higher-same j l)))
+
+  start-same : (q w : ℕ) → startDemand table partitions n i q w ≡ startDemand table others n i q w
+  unfolding startDemand higherWork
+  start-same q w =
+      ap₂ (λ (x y : ℕ). x + q * costOf table i + y) blocking-same
+      (sum-same _ _ n (λ j l. ap (λ (b : Bool). only b (releasesBy w (periodOf table j) * costOf table j)) (higher-same j l)))
+
+  response-same : (q : ℕ) → response table partitions n i q ≡ response table others n i q
+  unfolding response start
+  response-same q = ap (λ f. responseFrom (firstMet f 0) (costOf table i) (q * periodOf table i)) (fun-ext (start-same q))
+
+  pub verdict-alike : verdict table partitions n i ≡ verdict table others n i
+  unfolding verdict worst window
+  verdict-alike =
+      ap₂ (λ f g. verdictBy (firstMet f 1) (λ L. largestFound g (jobs L (periodOf table i))) (deadlineOf table i)) (fun-ext window-same) (fun-ext response-same)
+
 module _ (table : List Task) (partitions others : List ℕ) (n i : ℕ) (same : (j : ℕ) → j < n → inPartition partitions i j ≡ inPartition others i j) where
   higher-same : (j : ℕ) → j < n → higher table partitions i j ≡ higher table others i j
   unfolding higher
@@ -42,26 +65,8 @@ module _ (table : List Task) (partitions others : List ℕ) (n i : ℕ) (same : 
   unfolding blocking
   blocking-same = ap (λ (x : ℕ). x - 1) (largest-same _ _ n (λ j l. ap (λ (b : Bool). only b (costOf table j)) (lower-same j l)))
 
-  window-same : (t : ℕ) → windowDemand table partitions n i t ≡ windowDemand table others n i t
-  unfolding windowDemand
-  window-same t =
-      ap₂ (λ (x y : ℕ). x + y) blocking-same
-      (sum-same _ _ n (λ j l. ap (λ (b : Bool). only (eqb j i || b) (releasesIn t (periodOf table j) * costOf table j)) (higher-same j l)))
-
-  start-same : (q w : ℕ) → startDemand table partitions n i q w ≡ startDemand table others n i q w
-  unfolding startDemand higherWork
-  start-same q w =
-      ap₂ (λ (x y : ℕ). x + q * costOf table i + y) blocking-same
-      (sum-same _ _ n (λ j l. ap (λ (b : Bool). only b (releasesBy w (periodOf table j) * costOf table j)) (higher-same j l)))
-
-  response-same : (q : ℕ) → response table partitions n i q ≡ response table others n i q
-  unfolding response start
-  response-same q = ap (λ f. responseFrom (firstMet f 0) (costOf table i) (q * periodOf table i)) (fun-ext (start-same q))
-
   pub verdict-same : verdict table partitions n i ≡ verdict table others n i
-  unfolding verdict worst window
-  verdict-same =
-      ap₂ (λ f g. verdictBy (firstMet f 1) (λ L. largestFound g (jobs L (periodOf table i))) (deadlineOf table i)) (fun-ext window-same) (fun-ext response-same)
+  verdict-same = verdict-alike table partitions others n i higher-same blocking-same
 
 pub only-members-count : OnlyMembersCount
 only-members-count table partitions others n i same = (rank-same table partitions others n i same, verdict-same table partitions others n i same)

@@ -9,6 +9,7 @@ pub use members::larger;
 pub use members::pack_higher;
 pub use members::wide;
 pub use ranks::is_member;
+pub use ranks::outranks;
 pub use ranks::rank;
 
 // What the test says of a member: its worst response, or why it does not pass.

@@ -15,7 +15,7 @@ pub fn is_member(home: u32, there: u32) -> bool
 }
 
 // Whether the task with deadline mine outranks the other with its: smaller deadline first, then the lower number.
-fn outranks(mine: u32, task: usize, its: u32, other: usize) -> bool
+pub fn outranks(mine: u32, task: usize, its: u32, other: usize) -> bool
     ensures { λ r. ⌜ r ≡ outranksOf mine task its other ⌝ }
 {
     if mine < its {

@@ -1,6 +1,7 @@
 pub mod Turns
 pub mod Put
 pub mod Accepts
+pub mod Newcomer
 pub mod Standing
 pub mod Steps
 pub mod Claims

@@ -13,6 +13,7 @@ ghost use Prim.Native.Nat.{_≤_, _<_};
 ghost use Rattle.model.specs.Rules.{WithinLimits};
 ghost use Rattle.demand.specs.Test.{Sound};
 ghost use Rattle.fit.specs.Turns.{FoundBelow};
+ghost use Rattle.fit.specs.Newcomer.{PlacedPass};
 ghost use Rattle.fit.specs.Steps.{goingOn, settled, opening, step as stepOf, firstFitOf};
 
 fn going_on(placing: Placing) -> Outcome
@@ -69,7 +70,7 @@ fn step(
     tasks: usize,
     processors: u32,
 ) -> Outcome
-    requires { ⌜ Sound table tasks × (placing .opened < 32) × (placing .used ≤ processors) × (processors ≤ 64) ⌝ }
+    requires { ⌜ Sound table tasks × (placing .opened < 32) × (placing .used ≤ processors) × (processors ≤ 64) × PlacedPass table tasks (placing .partitions) ⌝ }
     ensures { λ r. ⌜ r ≡ stepOf table tasks processors placing ⌝ }
 {
     let partitions = placing.partitions;

@@ -31,7 +31,7 @@ step-requires : tie.Need-step-requires Inv-loop μ-loop
 step-requires c κs =
     let s = c .before .before .before .before .before in
     let l = c .before .loop in
-    (limits-sound (s .args .order) (s .pre), omega (arith, l .inv .1 .numbered .few, s .pre .tasks .1), l .inv .1 .laid .inside, s .pre .processors .1)
+    (limits-sound (s .args .order) (s .pre), omega (arith, l .inv .1 .numbered .few, s .pre .tasks .1), l .inv .1 .laid .inside, s .pre .processors .1, l .inv .1 .numbered .passes)
 
 enum-told : tie.Need-enum-told Inv-loop μ-loop
 enum-told c = search needs

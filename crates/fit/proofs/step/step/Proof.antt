@@ -1,6 +1,7 @@
 use Rattle.fit.proofs.Steps.{step-idle, step-next}
 use Rattle.fit.proofs.Accepts.{lowest-below}
-use Rattle.fit.proofs.Turns.{next-below, below-all}
+use Rattle.fit.proofs.Newcomer.{next-arrives}
+use Rattle.fit.proofs.Turns.{next-is, next-below, below-all}
 use Rattle.fit.specs.Steps.{lowestAccepting, settled}
 use Rattle.fit.specs.Turns.{FoundBelow}
 use Rattle.fit.specs.Kinds.{Found}
@@ -27,7 +28,9 @@ lowest-accepting-requires : tie.Need-lowest-accepting-requires
 lowest-accepting-requires c κs =
     let s = c .before .before .before .before .before in
     let a = s .args in
-    (s .pre .0, subst (λ (f : Found). FoundBelow f (a .tasks)) (c .before .turn .given .1) (next-below (a .table) (a .placing .partitions) (a .tasks) (c .before .before .before .next-task .result) (c .before .before .before .next-task .ensures)))
+    let i = c .before .turn .given .0 .0 in
+    let next = next-is (a .table) (a .placing .partitions) (a .tasks) i (sym (c .before .before .before .next-task .ensures) ∙ c .before .turn .given .1) in
+    (s .pre .0, next-arrives (a .table) (a .tasks) (a .placing .partitions) i next (s .pre .4), omega arith)
 
 settle-requires : tie.Need-settle-requires
 unfolding lowestAccepting
