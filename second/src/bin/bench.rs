@@ -4,7 +4,7 @@
 
 use second::answer::Answer;
 use second::generate::random::Random;
-use second::generate::{papers, scripts, slow, Scale};
+use second::generate::{builds, papers, scripts, slow, Scale};
 use second::library::{jefkantu_check, jefkantu_plan, jefkantu_run};
 use second::order::Order;
 use second::script;
@@ -15,10 +15,11 @@ use std::time::{Duration, Instant};
 /// Ours may take so many times as long as the second program.
 const MOST: f64 = 1.5;
 
-/// An order with its build, if it has one, and a legal script.
+/// An order with its build, if it has one, the build with all in one partition, and a legal script.
 struct Case {
     order: Vec<u8>,
     build: Vec<u8>,
+    by_hand: Vec<u8>,
     script: Vec<u8>,
 }
 
@@ -30,7 +31,8 @@ impl Case {
         build.truncate(planned.count as usize);
         let scale = Scale::FULL;
         let script = (0..20).map(|_| scripts::legal(random, order, &scale)).max_by_key(Vec::len);
-        Case { order: bytes, build, script: script::bytes(&script.unwrap_or_default()) }
+        let by_hand = builds::all_in_one(order).bytes();
+        Case { order: bytes, build, by_hand, script: script::bytes(&script.unwrap_or_default()) }
     }
 }
 
@@ -41,7 +43,7 @@ struct Operation {
     second: fn(&Case) -> Answer,
 }
 
-const OPERATIONS: [Operation; 3] = [
+const OPERATIONS: [Operation; 4] = [
     Operation {
         name: "plan",
         ours: |case| {
@@ -54,16 +56,17 @@ const OPERATIONS: [Operation; 3] = [
     },
     Operation {
         name: "check",
-        ours: |Case { order, build, .. }| {
-            Answer::unpack(unsafe {
-                jefkantu_check(order.as_ptr(), order.len(), build.as_ptr(), build.len())
-            })
-        },
+        ours: |Case { order, build, .. }| library_check(order, build),
         second: |case| second::check(&case.order, &case.build),
     },
     Operation {
+        name: "check, all in one",
+        ours: |Case { order, by_hand, .. }| library_check(order, by_hand),
+        second: |case| second::check(&case.order, &case.by_hand),
+    },
+    Operation {
         name: "run",
-        ours: |Case { order, build, script }| {
+        ours: |Case { order, build, script, .. }| {
             let mut out = [0u32; 1_024];
             let (to, room) = (out.as_mut_ptr(), out.len());
             Answer::unpack(unsafe {
@@ -82,6 +85,12 @@ const OPERATIONS: [Operation; 3] = [
         second: |case| second::run(&case.order, &case.build, &case.script, &mut [0; 1_024]),
     },
 ];
+
+fn library_check(order: &[u8], build: &[u8]) -> Answer {
+    Answer::unpack(unsafe {
+        jefkantu_check(order.as_ptr(), order.len(), build.as_ptr(), build.len())
+    })
+}
 
 /// How long one program takes for all cases, so many times.
 fn time(program: fn(&Case) -> Answer, cases: &[Case], times: u32) -> Duration {
@@ -110,6 +119,7 @@ fn times(operation: &Operation, cases: &[Case], runs: u32) -> (Duration, Duratio
 fn terms(name: &str, cases: &[Case]) -> u64 {
     let of = |case: &Case| match name {
         "plan" => second::plan_counting(&case.order, &mut [0; 195]).1,
+        "check, all in one" => second::check_counting(&case.order, &case.by_hand).1,
         _ => second::check_counting(&case.order, &case.build).1,
     };
     cases.iter().map(of).sum()

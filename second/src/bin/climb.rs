@@ -3,11 +3,9 @@
 //! `climb [plan|check] [SEED] [SECONDS]` climbs from the orders of slow.txt, then from random ones, and
 //! prints the worst order of each climb in that file's form.
 
-use second::build::{Build, Partition, Seat};
 use second::generate::random::Random;
-use second::generate::slow;
+use second::generate::{builds, slow};
 use second::order::Order;
-use second::response::Roster;
 use second::{check_counting, plan_counting};
 use std::time::{Duration, Instant};
 
@@ -21,21 +19,9 @@ fn plan_terms(order: &Order) -> u64 {
     plan_counting(&order.bytes(), &mut [0; 195]).1
 }
 
-/// The terms of checking the build that has all in one partition, with sound ranks and responses.
+/// The terms of checking the build that has all tasks in one partition.
 fn check_terms(order: &Order) -> u64 {
-    let mut all = Roster::default();
-    for (i, &task) in order.tasks.iter().enumerate() {
-        all.add(i, task);
-    }
-    let mut seats = vec![Seat::default(); order.tasks.len()];
-    for (rank, &i) in all.numbers.iter().enumerate() {
-        let response = all.response(rank, &mut ()).unwrap_or(0);
-        seats[i] = Seat { partition: 0, rank: rank as u32, response };
-    }
-    let processors = order.processors;
-    let partitions = vec![Partition { volume: processors, first: 0 }];
-    let build = Build { processors, partitions, seats };
-    check_counting(&order.bytes(), &build.bytes()).1
+    check_counting(&order.bytes(), &builds::all_in_one(order).bytes()).1
 }
 
 /// The worst of some random orders.

@@ -19,6 +19,21 @@ pub fn by_hand(random: &mut Random, order: &Order) -> Build {
     Build { processors: order.processors, partitions, seats: seats(random, order, &rosters) }
 }
 
+/// The build with all tasks in one partition, with sound ranks, and sound responses where they pass.
+pub fn all_in_one(order: &Order) -> Build {
+    let mut all = Roster::default();
+    for (i, &task) in order.tasks.iter().enumerate() {
+        all.add(i, task);
+    }
+    let mut seats = vec![Seat::default(); order.tasks.len()];
+    for (rank, &i) in all.numbers.iter().enumerate() {
+        let response = all.response(rank, &mut ()).unwrap_or(0);
+        seats[i] = Seat { partition: 0, rank: rank as u32, response };
+    }
+    let partitions = vec![Partition { volume: order.processors, first: 0 }];
+    Build { processors: order.processors, partitions, seats }
+}
+
 /// The fields of a build on the wire.
 pub fn sections(build: &Build) -> Vec<Section> {
     vec![
