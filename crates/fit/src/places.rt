@@ -5,12 +5,12 @@ use search::Found;
 ghost use mathlib.Core.Path.{_≡_};
 ghost use mathlib.Core.Bool.{true, false, not, _&&_};
 ghost use Prim.Native.Nat.{_≤_, _<_};
-ghost use lib.Dec.{eqb};
+ghost use lib.Dec.{leb, eqb};
 ghost use Rattle.search.specs.Smallest.{firstOf};
-ghost use Rattle.demand.specs.Priority.{inPartition};
-ghost use Rattle.demand.specs.Test.{Sound, verdict as verdictOf, doesPass};
+ghost use Rattle.demand.specs.Priority.{outranks as outranksOf};
+ghost use Rattle.demand.specs.Test.{Sound};
 ghost use Rattle.fit.specs.Steps.{membersPass, accepts as acceptsOf};
-ghost use Rattle.fit.specs.Newcomer.{leftAlone, Arrives, Tried};
+ghost use Rattle.fit.specs.Newcomer.{Arrives, Joins, Shields};
 
 // Whether the other task is another member of the task's partition home.
 fn is_another_member(home: u32, task: usize, there: u32, other: usize) -> bool
@@ -22,67 +22,94 @@ fn is_another_member(home: u32, task: usize, there: u32, other: usize) -> bool
     demand::is_member(home, there)
 }
 
-// Whether the newcomer leaves the member's test as it was: the member outranks it, and is blocked as long already.
-fn is_left_alone(
-    table: [Task; Order::MOST_TASKS],
-    partitions: [u32; Order::MOST_TASKS],
-    tasks: usize,
-    task: usize,
-    member: usize,
-) -> bool
-    requires { ⌜ Sound table tasks × (task < tasks) × (member < tasks) ⌝ }
-    ensures { λ r. ⌜ r ≡ leftAlone table tasks partitions task member ⌝ }
-{
-    let its = table[task];
-    let mine = table[member];
-    if !demand::outranks(mine.deadline, member, its.deadline, task) {
-        return false;
-    }
-    let cost = demand::cost_of(its);
-    let blocking = demand::blocking(table, partitions, tasks, member);
-    cost <= blocking + 1
+// Another member that takes as long as the newcomer: its deadline and number, or two zeros, which no task outranks.
+struct Shield {
+    deadline: u32,
+    number: usize,
 }
 
-// Whether another member passes beside the newcomer: one that is left alone does, as before.
-fn still_passes(
+// Whether a member takes as long as the newcomer, and the shield found so far outranks it.
+fn shields_more(cost: u64, deadline: u32, number: usize, long: u64, its: u32, other: usize) -> bool
+    ensures { λ r. ⌜ r ≡ leb cost long && outranksOf deadline number its other ⌝ }
+{
+    if long < cost {
+        return false;
+    }
+    demand::outranks(deadline, number, its, other)
+}
+
+// The lowest other member that takes as long as the newcomer: each member above it is blocked as long already.
+fn find_shield(
     table: [Task; Order::MOST_TASKS],
-    partitions: [u32; Order::MOST_TASKS],
     tried: [u32; Order::MOST_TASKS],
     tasks: usize,
     task: usize,
-    member: usize,
-) -> bool
-    requires { ⌜ Sound table tasks × (task < tasks) × (member < tasks) × Tried table tasks partitions tried task × (eqb member task ≡ false) × (inPartition tried task member ≡ true) ⌝ }
-    ensures { λ r. ⌜ r ≡ doesPass (verdictOf table tried tasks member) ⌝ }
+) -> Shield
+    requires { ⌜ Sound table tasks × (task < tasks) ⌝ }
+    ensures { λ r. ⌜ Shields table tasks tried task (r .deadline) (r .number) ⌝ }
 {
-    if is_left_alone(table, partitions, tasks, task, member) {
-        return true;
-    }
-    verdict::passes(table, tried, tasks, member)
-}
-
-// Whether the task and all other members of its partition pass: the newcomer first, and no further than to the first that fails.
-fn members_pass(
-    table: [Task; Order::MOST_TASKS],
-    partitions: [u32; Order::MOST_TASKS],
-    tried: [u32; Order::MOST_TASKS],
-    tasks: usize,
-    task: usize,
-) -> bool
-    requires { ⌜ Sound table tasks × (task < tasks) × Tried table tasks partitions tried task ⌝ }
-    ensures { λ r. ⌜ r ≡ membersPass table tasks tried task ⌝ }
-{
-    if !verdict::passes(table, tried, tasks, task) {
-        return false;
-    }
+    let mine = table[task];
     let home = tried[task];
+    let cost = demand::cost_of(mine);
+    let mut deadline: u32 = 0;
+    let mut number: usize = 0;
     let mut other: usize = 0;
     while other < tasks {
         if !is_another_member(home, task, tried[other], other) {
             other += 1;
             continue;
         }
-        if !still_passes(table, partitions, tried, tasks, task, other) {
+        let its = table[other];
+        let long = demand::cost_of(its);
+        if !shields_more(cost, deadline, number, long, its.deadline, other) {
+            other += 1;
+            continue;
+        }
+        deadline = its.deadline;
+        number = other;
+        other += 1;
+    }
+    Shield { deadline, number }
+}
+
+// Whether the newcomer leaves the member's test as it was: the member outranks it and the shield, so it is blocked as long already.
+fn is_left_alone(mine: u32, member: usize, its: u32, task: usize, shield: Shield) -> bool
+    ensures { λ r. ⌜ r ≡ outranksOf mine member its task && outranksOf mine member (shield .deadline) (shield .number) ⌝ }
+{
+    if !demand::outranks(mine, member, its, task) {
+        return false;
+    }
+    demand::outranks(mine, member, shield.deadline, shield.number)
+}
+
+// Whether the task and all other members of its partition pass: the newcomer first, no further than to the first that fails, and none that is left alone.
+fn members_pass(
+    table: [Task; Order::MOST_TASKS],
+    tried: [u32; Order::MOST_TASKS],
+    tasks: usize,
+    task: usize,
+) -> bool
+    requires { ⌜ Sound table tasks × (task < tasks) × Joins table tasks tried task ⌝ }
+    ensures { λ r. ⌜ r ≡ membersPass table tasks tried task ⌝ }
+{
+    if !verdict::passes(table, tried, tasks, task) {
+        return false;
+    }
+    let home = tried[task];
+    let its = table[task];
+    let shield = find_shield(table, tried, tasks, task);
+    let mut other: usize = 0;
+    while other < tasks {
+        if !is_another_member(home, task, tried[other], other) {
+            other += 1;
+            continue;
+        }
+        let mine = table[other];
+        if is_left_alone(mine.deadline, other, its.deadline, task, shield) {
+            other += 1;
+            continue;
+        }
+        if !verdict::passes(table, tried, tasks, other) {
             return false;
         }
         other += 1;
@@ -103,7 +130,7 @@ fn accepts(
 {
     let mut tried = partitions;
     tried[task] = partition;
-    members_pass(table, partitions, tried, tasks, task)
+    members_pass(table, tried, tasks, task)
 }
 
 // The lowest-numbered of the opened partitions that takes the task.

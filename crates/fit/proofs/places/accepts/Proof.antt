@@ -14,7 +14,7 @@ array-write-tried c = omega (arith, c .pre .0 .few, c .pre .1 .below)
 members-pass-requires : tie.Need-members-pass-requires
 members-pass-requires c κs =
     let a = c .args in
-    (c .pre .0, c .pre .1 .below, tried-in (a .table) (a .tasks) (a .partitions) (a .task) (a .partition) (c .pre .2) (c .pre .1))
+    (c .pre .0, c .pre .1 .below, (a .partitions, tried-in (a .table) (a .tasks) (a .partitions) (a .task) (a .partition) (c .pre .2) (c .pre .1)))
 
 returns : tie.Need-returns
 unfolding accepts
