@@ -16,7 +16,7 @@ use Rattle.demand.specs.Test.{Sound, firstMet, blocking, windowDemand, w
 use Rattle.demand.specs.Meaning.{IsWindow, IsResponse, IsPassing, AlonePasses, OnlyMembersCount}
 use Rattle.demand.specs.Packed.{windowOver}
 use Rattle.demand.proofs.Releases.{by-few, by-spaced}
-use Rattle.demand.proofs.Priority.{in-swap, higher-self, lower-higher}
+use Rattle.demand.proofs.Priority.{in-swap, higher-self, lower-higher, higher-apart}
 use Rattle.demand.proofs.Table.{period-of, cost-of, cost-of-most, cost-of-deadline, window-over}
 use Rattle.demand.proofs.Meaning.{every-verdict-means}
 
@@ -71,10 +71,6 @@ module _ (table : List Task) (partitions others : List ℕ) (n i : ℕ) (same : 
 pub only-members-count : OnlyMembersCount
 only-members-count table partitions others n i same = (rank-same table partitions others n i same, verdict-same table partitions others n i same)
 
-apart : (table : List Task) (partitions : List ℕ) (i j : ℕ) → inPartition partitions i j ≡ false → higher table partitions i j ≡ false
-unfolding higher
-apart table partitions i j e = rw e
-
 -- a task alone in its partition
 module _ (table : List Task) (partitions : List ℕ) (n i : ℕ) (sound : Sound table n) (mine : i < n) (alone : (j : ℕ) → j < n → (j ≡ i → ⊥) → inPartition partitions i j ≡ false) where
   no-higher : (j : ℕ) → j < n → higher table partitions i j ≡ false
@@ -86,7 +82,7 @@ module _ (table : List Task) (partitions : List ℕ) (n i : ℕ) (sound : Sound 
     where
       go : Dec (j ≡ i) → higher table partitions j i ≡ false
       go (yes e) = rw e (higher-self table partitions i)
-      go (no ne) = apart table partitions j i (in-swap partitions j i ∙ alone j l ne)
+      go (no ne) = higher-apart table partitions j i (in-swap partitions j i ∙ alone j l ne)
 
   no-blocking : blocking table partitions n i ≡ 0
   unfolding blocking

@@ -6,29 +6,20 @@ use Prim.Native.Nat.{ℕ, _+_, _-_, _≤_, _<_}
 use native.Mathlib.Decide.{ℕ-discrete}
 use native.Mathlib.Omega.{arith}
 use Rattle.laws.specs.Sums.{only, largest}
-use Rattle.laws.proofs.Every.{clash}
 use Rattle.laws.proofs.Only.{only-le}
 use Rattle.laws.proofs.Sums.{largest-in, largest-le}
 use Rattle.demand.specs.Kinds.{Task}
 use Rattle.demand.specs.Priority.{deadlineOf, outranks, inPartition, higher, lower}
 use Rattle.demand.specs.Releases.{costOf}
 use Rattle.demand.specs.Test.{blocking, verdict}
-use Rattle.demand.proofs.Priority.{outranks-self, outranks-chain}
+use Rattle.demand.proofs.Priority.{never-above, lower-apart}
 use Rattle.demand.proofs.Membership.{verdict-alike}
 
 -- the partitions before and after task i joined; j is a member, the others are where they were
 module _ (table : List Task) (before after : List ℕ) (n i j : ℕ) (others : (k : ℕ) → k < n → (k ≡ i → ⊥) → inPartition after j k ≡ inPartition before j k) (out : inPartition before j i ≡ false) (above : outranks (deadlineOf table j) j (deadlineOf table i) i ≡ true) where
-  never-above : outranks (deadlineOf table i) i (deadlineOf table j) j ≡ false
-  never-above = go (outranks (deadlineOf table i) i (deadlineOf table j) j) refl
-    where
-      go : (b : Bool) → outranks (deadlineOf table i) i (deadlineOf table j) j ≡ b → b ≡ false
-      go true e =
-          clash (sym (outranks-self (deadlineOf table j) j) ∙ outranks-chain (deadlineOf table j) j (deadlineOf table i) i (deadlineOf table j) j above e)
-      go false e = refl
-
   not-higher : (partitions : List ℕ) → higher table partitions j i ≡ false
   unfolding higher
-  not-higher partitions = go (inPartition partitions j i) (outranks (deadlineOf table i) i (deadlineOf table j) j) never-above
+  not-higher partitions = go (inPartition partitions j i) (outranks (deadlineOf table i) i (deadlineOf table j) j) (never-above (deadlineOf table j) j (deadlineOf table i) i above)
     where
       go : (a b : Bool) → b ≡ false → (a && b) ≡ false
       go true b e = e
@@ -46,8 +37,7 @@ module _ (table : List Task) (before after : List ℕ) (n i j : ℕ) (others : (
   lower-kept k l away = rw (others k l away)
 
   lower-out : lower table before j i ≡ false
-  unfolding lower
-  lower-out = rw out
+  lower-out = lower-apart table before j i out
 
   -- what a lower member adds to the blocking
   abbrev adds : List ℕ → ℕ → ℕ

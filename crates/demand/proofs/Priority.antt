@@ -11,6 +11,7 @@ use lib.Dec.{ltb, eqb}
 use lib.ListN.{getD}
 use borrow.Author.Tests.{lt-ltb, le-ltb, eq-eqb, ne-eqb, ltb-true, eqb-true, eqb-false}
 use Rattle.laws.specs.Sums.{only}
+use Rattle.laws.proofs.Every.{clash}
 use Rattle.laws.proofs.Sums.{sum-none, sum-more}
 use Rattle.laws.proofs.Only.{only-le}
 use Rattle.laws.proofs.Picked.{sum-most, sum-with}
@@ -64,6 +65,14 @@ outranks-chain d a e b f c p q = go (outranks-says d a e b p) (outranks-says e b
     go (inr x) (inl y) = says-outranks d a f c (inl (omega arith))
     go (inr x) (inr y) = says-outranks d a f c (inr (omega arith, omega arith))
 
+-- of two tasks only one outranks the other
+pub never-above : (d a e b : ℕ) → outranks d a e b ≡ true → outranks e b d a ≡ false
+never-above d a e b above = go (outranks e b d a) refl
+  where
+    go : (x : Bool) → outranks e b d a ≡ x → x ≡ false
+    go true p = clash (sym (outranks-self d a) ∙ outranks-chain d a e b d a above p)
+    go false p = refl
+
 pub in-self : (partitions : List ℕ) (i : ℕ) → inPartition partitions i i ≡ true
 unfolding inPartition
 in-self partitions i = eq-eqb (getD partitions i 0) (getD partitions i 0) refl
@@ -102,6 +111,25 @@ module _ (table : List Task) (partitions : List ℕ) where
 
   pub lower-by : (i j : ℕ) → byNumbers j i ≡ lower table partitions i j
   lower-by i j = higher-by j i ∙ sym (lower-higher i j)
+
+  -- no task of another partition is higher or lower
+  pub higher-apart : (i j : ℕ) → inPartition partitions i j ≡ false → higher table partitions i j ≡ false
+  unfolding higher
+  higher-apart i j e = rw e
+
+  pub lower-apart : (i j : ℕ) → inPartition partitions i j ≡ false → lower table partitions i j ≡ false
+  unfolding lower
+  lower-apart i j e = rw e
+
+  -- nor is a higher one lower
+  pub higher-not-lower : (i j : ℕ) → higher table partitions i j ≡ true → lower table partitions i j ≡ false
+  unfolding higher lower
+  higher-not-lower i j e = go (inPartition partitions i j) (outranks (deadlineOf table j) j (deadlineOf table i) i) refl e
+    where
+      go : (a b : Bool) → outranks (deadlineOf table j) j (deadlineOf table i) i ≡ b → (a && b) ≡ true → (a && outranks (deadlineOf table i) i (deadlineOf table j) j) ≡ false
+      go true true above e = never-above (deadlineOf table j) j (deadlineOf table i) i above
+      go true false above e = clash e
+      go false b above e = refl
 
   pub rank-none : (i : ℕ) → rank table partitions 0 i ≡ 0
   unfolding rank

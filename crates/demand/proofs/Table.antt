@@ -1,5 +1,6 @@
 -- The test over a sound table: its demands grow, they are those over the higher members' work, and a window has room for all its jobs.
 use mathlib.Core.Path.{_≡_, refl, sym, ap, subst}
+use mathlib.Core.Bool.{false}
 use mathlib.Core.List.{List}
 use Prim.Native.Nat.{ℕ, _+_, _-_, _*_, _≤_, _<_, max}
 use native.Mathlib.Nat.{mul-le-mul-right, le-trans}
@@ -57,6 +58,10 @@ module _ (table : List Task) (partitions : List ℕ) where
   -- one more task is looked at
   pub lower-next : (i j most lower next : ℕ) → most ≡ lowerCost i j → lower ≡ only (byNumbers table partitions j i) (costOf table j) → next ≡ max most lower → next ≡ lowerCost i (j + 1)
   lower-next i j most lower next e f g = cc (lower-more i j, lower-by table partitions i j)
+
+  -- or one that is no lower member
+  pub lower-skip : (i j most : ℕ) → most ≡ lowerCost i j → lower table partitions i j ≡ false → most ≡ lowerCost i (j + 1)
+  lower-skip i j most e f = rw (lower-more, f) (omega arith)
 
   pub blocking-lower : (n i : ℕ) → blocking table partitions n i ≡ lowerCost i n - 1
   unfolding lowerCost blocking

@@ -2,11 +2,11 @@
 mod members;
 mod ranks;
 
-pub use members::HigherMembers;
+pub use members::Others;
 pub use members::blocking;
 pub use members::cost_of;
 pub use members::larger;
-pub use members::pack_higher;
+pub use members::others_of;
 pub use members::wide;
 pub use ranks::is_member;
 pub use ranks::outranks;

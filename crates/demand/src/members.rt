@@ -3,7 +3,7 @@ use crate::ranks;
 use model::Order;
 use model::Task;
 ghost use mathlib.Core.Path.{_≡_};
-ghost use Prim.Native.Nat.{_<_, max};
+ghost use Prim.Native.Nat.{_-_, _<_, max};
 ghost use Rattle.laws.specs.Sums.{only};
 ghost use Rattle.demand.specs.Priority.{higherBy};
 ghost use Rattle.demand.specs.Releases.{cost};
@@ -41,6 +41,16 @@ fn lower_cost(home: u32, mine: u32, task: usize, there: u32, its: Task, other: u
     0
 }
 
+// The blocking, of the largest cost: less 1, and 0 if there are no lower-priority members.
+fn less_one(most: u64) -> u64
+    ensures { λ r. ⌜ r ≡ most - 1 ⌝ }
+{
+    if most == 0 {
+        return 0;
+    }
+    most - 1
+}
+
 // The largest cost among lower-priority members, less 1.
 pub fn blocking(
     table: [Task; Order::MOST_TASKS],
@@ -62,47 +72,53 @@ pub fn blocking(
         most = larger(most, lower);
         other += 1;
     }
-    if most == 0 {
-        return 0;
-    }
-    most - 1
+    less_one(most)
 }
 
-// The members that outrank one, by period and cost: flat, for the searches.
-pub struct HigherMembers {
+// What the test asks of the other members: the blocking, and those that outrank one by period and cost, flat, for the searches.
+pub struct Others {
+    pub blocking: u64,
     pub count: usize,
     pub periods: [u64; Order::MOST_TASKS],
     pub costs: [u64; Order::MOST_TASKS],
 }
 
-pub fn pack_higher(
+pub fn others_of(
     table: [Task; Order::MOST_TASKS],
     partitions: [u32; Order::MOST_TASKS],
     tasks: usize,
     task: usize,
-) -> HigherMembers
+) -> Others
     requires { ⌜ Sound table tasks × (task < tasks) ⌝ }
-    ensures { λ r. ⌜ Packs table partitions tasks task (r .periods) (r .costs) (r .count) ⌝ }
+    ensures { λ r. ⌜ (r .blocking ≡ blockingOf table partitions tasks task) × Packs table partitions tasks task (r .periods) (r .costs) (r .count) ⌝ }
 {
     let mine = table[task];
     let home = partitions[task];
+    let mut most: u64 = 0;
     let mut periods = [0u64; Order::MOST_TASKS];
     let mut costs = [0u64; Order::MOST_TASKS];
     let mut count: usize = 0;
-    let mut other: usize = 0;
-    while other < tasks {
-        let its = table[other];
+    let mut next: usize = 0;
+    while next < tasks {
+        let other = next;
+        next += 1;
         let there = partitions[other];
+        if !ranks::is_member(home, there) {
+            continue;
+        }
+        let its = table[other];
         if ranks::is_higher(home, mine.deadline, task, there, its.deadline, other) {
             periods[count] = wide(its.period);
             costs[count] = cost_of(its);
             count += 1;
-            other += 1;
             continue;
         }
-        other += 1;
+        let lower = lower_cost(home, mine.deadline, task, there, its, other);
+        most = larger(most, lower);
     }
-    HigherMembers {
+    let blocking = less_one(most);
+    Others {
+        blocking,
         count,
         periods,
         costs,

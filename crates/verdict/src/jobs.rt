@@ -1,4 +1,5 @@
 // The jobs of a window, one by one, each held against its deadline.
+use crate::shares;
 use crate::starts;
 use crate::windows;
 use demand::Verdict;
@@ -9,7 +10,7 @@ ghost use mathlib.Core.Path.{_≡_};
 ghost use Rattle.search.specs.declared.Found.the-variants.{At};
 ghost use Rattle.demand.specs.Test.{firstMet, doesPass};
 ghost use Rattle.demand.specs.Packed.{Ranges, Opens, packedWork, startOver, verdictOver};
-ghost use Rattle.verdict.specs.Shares.{Shared};
+ghost use Rattle.verdict.specs.Shares.{shareOf, Shared};
 
 // The verdict in a window of the length, whose first job is in time: until a job is late.
 fn later_jobs(
@@ -54,10 +55,11 @@ fn from_first(
     blocking: u64,
     period: u64,
     cost: u64,
+    share: u64,
     deadline: u64,
     first: u64,
 ) -> Verdict
-    requires { ⌜ Shared (now periods) (now costs) (now shares) count × Ranges blocking period cost deadline × (firstMet (startOver (packedWork (now periods) (now costs) count) blocking) 0 ≡ At first) ⌝ }
+    requires { ⌜ Shared (now periods) (now costs) (now shares) count × Ranges blocking period cost deadline × (share ≡ shareOf period cost) × (firstMet (startOver (packedWork (now periods) (now costs) count) blocking) 0 ≡ At first) ⌝ }
     ensures { λ r. ⌜ r ≡ verdictOver (packedWork (now (periods .entry)) (now (costs .entry)) count) blocking period cost deadline ⌝ }
 {
     let end = first + cost;
@@ -69,6 +71,7 @@ fn from_first(
         blocking,
         period,
         cost,
+        share,
         end,
     ) else {
         return Verdict::NoWindow;
@@ -104,7 +107,8 @@ pub fn judge(
     requires { ⌜ Shared (now periods) (now costs) (now shares) count × Ranges blocking period cost deadline ⌝ }
     ensures { λ r. ⌜ r ≡ verdictOver (packedWork (now (periods .entry)) (now (costs .entry)) count) blocking period cost deadline ⌝ }
 {
-    if windows::overfull(periods, costs, shares, count, blocking, period, cost) {
+    let share = shares::share(period, cost);
+    if windows::overfull(periods, costs, shares, count, blocking, period, cost, share) {
         return Verdict::NoWindow;
     }
     let limit = Task::HORIZON;
@@ -120,6 +124,7 @@ pub fn judge(
         blocking,
         period,
         cost,
+        share,
         deadline,
         first,
     )
@@ -150,7 +155,8 @@ pub fn in_time(
     requires { ⌜ Shared (now periods) (now costs) (now shares) count × Ranges blocking period cost deadline ⌝ }
     ensures { λ r. ⌜ r ≡ doesPass (verdictOver (packedWork (now (periods .entry)) (now (costs .entry)) count) blocking period cost deadline) ⌝ }
 {
-    if windows::overfull(periods, costs, shares, count, blocking, period, cost) {
+    let share = shares::share(period, cost);
+    if windows::overfull(periods, costs, shares, count, blocking, period, cost, share) {
         return false;
     }
     let limit = deadline - cost;
@@ -166,6 +172,7 @@ pub fn in_time(
         blocking,
         period,
         cost,
+        share,
         deadline,
         first,
     ))

@@ -22,11 +22,10 @@ pub fn verdict(
     requires { ⌜ Sound table tasks × (task < tasks) ⌝ }
     ensures { λ r. ⌜ r ≡ verdictOf table partitions tasks task ⌝ }
 {
-    let blocking = demand::blocking(table, partitions, tasks, task);
-    let higher = demand::pack_higher(table, partitions, tasks, task);
-    let periods = higher.periods;
-    let costs = higher.costs;
-    let count = higher.count;
+    let others = demand::others_of(table, partitions, tasks, task);
+    let periods = others.periods;
+    let costs = others.costs;
+    let count = others.count;
     let shares = shares::shares_of(&periods, &costs, count);
     let mine = table[task];
     let period = demand::wide(mine.period);
@@ -37,7 +36,7 @@ pub fn verdict(
         &costs,
         &shares,
         count,
-        blocking,
+        others.blocking,
         period,
         cost,
         deadline,
@@ -54,11 +53,10 @@ pub fn passes(
     requires { ⌜ Sound table tasks × (task < tasks) ⌝ }
     ensures { λ r. ⌜ r ≡ doesPass (verdictOf table partitions tasks task) ⌝ }
 {
-    let blocking = demand::blocking(table, partitions, tasks, task);
-    let higher = demand::pack_higher(table, partitions, tasks, task);
-    let periods = higher.periods;
-    let costs = higher.costs;
-    let count = higher.count;
+    let others = demand::others_of(table, partitions, tasks, task);
+    let periods = others.periods;
+    let costs = others.costs;
+    let count = others.count;
     let shares = shares::shares_of(&periods, &costs, count);
     let mine = table[task];
     let period = demand::wide(mine.period);
@@ -69,7 +67,7 @@ pub fn passes(
         &costs,
         &shares,
         count,
-        blocking,
+        others.blocking,
         period,
         cost,
         deadline,

@@ -11,7 +11,7 @@ ghost use Prim.Native.Nat.{ℕ, _≤_, _<_};
 ghost use Rattle.search.specs.declared.Found.the-variants.{Nothing};
 ghost use Rattle.demand.specs.Test.{firstMet};
 ghost use Rattle.demand.specs.Packed.{packedWork, windowOver};
-ghost use Rattle.verdict.specs.Shares.{Shared};
+ghost use Rattle.verdict.specs.Shares.{shareOf, Shared};
 ghost use Rattle.verdict.specs.Lines.{Below, together};
 
 // What a task and the packed members ask.
@@ -22,13 +22,13 @@ fn asked_with(
     count: usize,
     period: u64,
     cost: u64,
+    share: u64,
     w: u64,
     reach: u64,
 ) -> Asked
-    requires { ⌜ Shared (now periods) (now costs) (now shares) count × (1 ≤ period) × (cost ≤ 1_000_000) × (w ≤ 2_000_000) ⌝ }
+    requires { ⌜ Shared (now periods) (now costs) (now shares) count × (1 ≤ period) × (cost ≤ 1_000_000) × (share ≡ shareOf period cost) × (w ≤ 2_000_000) ⌝ }
     ensures { λ r. ⌜ Below (together (packedWork (now (periods .entry)) (now (costs .entry)) count) period cost) w (r .all) (r .rest) (r .slope) ⌝ }
 {
-    let share = shares::share(period, cost);
     let own = lines::asked_of(period, cost, share, w, reach);
     let others = lines::asked_by(periods, costs, shares, count, w, reach);
     Asked {
@@ -47,8 +47,9 @@ pub fn overfull(
     blocking: u64,
     period: u64,
     cost: u64,
+    share: u64,
 ) -> bool
-    requires { ⌜ Shared (now periods) (now costs) (now shares) count × (1 ≤ period) × (cost ≤ 1_000_000) ⌝ }
+    requires { ⌜ Shared (now periods) (now costs) (now shares) count × (1 ≤ period) × (cost ≤ 1_000_000) × (share ≡ shareOf period cost) ⌝ }
     ensures { λ r. ⌜ (r ≡ true → firstMet (windowOver (packedWork (now (periods .entry)) (now (costs .entry)) count) blocking period cost) 1 ≡ Nothing) ⌝ }
 {
     // No period is longer than the horizon, so the slope is the sum of all shares.
@@ -59,6 +60,7 @@ pub fn overfull(
         count,
         period,
         cost,
+        share,
         0,
         Task::HORIZON,
     );
@@ -80,15 +82,26 @@ pub fn window_from(
     blocking: u64,
     period: u64,
     cost: u64,
+    share: u64,
     from: u64,
 ) -> Found
-    requires { ⌜ Shared (now periods) (now costs) (now shares) count × (blocking ≤ 1_000_000) × (1 ≤ period) × (cost ≤ 1_000_000) × (1 ≤ from) × ((s : ℕ) → 1 ≤ s → s < from → s < windowOver (packedWork (now periods) (now costs) count) blocking period cost s) ⌝ }
+    requires { ⌜ Shared (now periods) (now costs) (now shares) count × (blocking ≤ 1_000_000) × (1 ≤ period) × (cost ≤ 1_000_000) × (share ≡ shareOf period cost) × (1 ≤ from) × ((s : ℕ) → 1 ≤ s → s < from → s < windowOver (packedWork (now periods) (now costs) count) blocking period cost s) ⌝ }
     ensures { λ r. ⌜ r ≡ firstMet (windowOver (packedWork (now (periods .entry)) (now (costs .entry)) count) blocking period cost) 1 ⌝ }
 {
     let mut t: u64 = from;
     let mut reach: u64 = 2;
     while t <= Task::HORIZON {
-        let asked = asked_with(periods, costs, shares, count, period, cost, t - 1, reach);
+        let asked = asked_with(
+            periods,
+            costs,
+            shares,
+            count,
+            period,
+            cost,
+            share,
+            t - 1,
+            reach,
+        );
         let total = blocking + asked.all;
         if total <= t {
             return Found::At(t);

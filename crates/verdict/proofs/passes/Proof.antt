@@ -6,17 +6,14 @@ use borrow.Author.Needs.{needs}
 use Rattle.verdict.proofs.passes.Statement.{statement}
 use Rattle.verdict.proofs.passes.Tie as tie
 
-blocking-requires : tie.Need-blocking-requires
-blocking-requires c κs = search needs
-
-pack-higher-requires : tie.Need-pack-higher-requires
-pack-higher-requires c κs = search needs
+others-of-requires : tie.Need-others-of-requires
+others-of-requires c κs = search needs
 
 shares-of-requires : tie.Need-shares-of-requires
-shares-of-requires c κs = let s = c .before .before .before .before .before .before in
+shares-of-requires c κs = let s = c .before .before .before .before .before in
     let a = s .args in
-    let h = c .before .before .before .before .pack-higher in
-    packs-fit (a .t1) (a .partitions) (a .tasks) (a .task) (s .pre .0) (s .pre .1) (h .result .periods) (h .result .costs) (h .result .count) (h .ensures)
+    let h = c .before .before .before .before .others-of in
+    packs-fit (a .t1) (a .partitions) (a .tasks) (a .task) (s .pre .0) (s .pre .1) (h .result .periods) (h .result .costs) (h .result .count) (h .ensures .1)
 
 mul-mine : tie.Need-mul-mine
 mul-mine c = search needs
@@ -28,17 +25,17 @@ wide-requires : tie.Need-wide-requires
 wide-requires c κs = search needs
 
 cost-of-requires : tie.Need-cost-of-requires
-cost-of-requires c κs = let s = c .before .before .before .before .before .before .before .before .before in s .pre .0 .each _ (s .pre .1)
+cost-of-requires c κs = let s = c .before .before .before .before .before .before .before .before in s .pre .0 .each _ (s .pre .1)
 
 wide-requires-2 : tie.Need-wide-requires-2
 wide-requires-2 c κs = search needs
 
 in-time-requires : tie.Need-in-time-requires
 in-time-requires c κs = let k = c .before .before .before .before .before .before .before in
-    let s = k .before .before .before .before .before .before .before in
+    let s = k .before .before .before .before .before .before in
     let a = s .args in
     let g = ranges (a .t1) (a .partitions) (a .tasks) (a .task) (s .pre .0) (s .pre .1) in
-    let b = k .before .before .before .before .before .before .blocking .ensures in
+    let b = k .before .before .before .before .before .others-of .ensures .0 in
     let t = c .before .before .before .before .before .wide .ensures in
     let e = c .before .before .before .before .cost-of .ensures in
     let d = c .before .before .before .wide2 .ensures in (
@@ -54,24 +51,22 @@ in-time-requires c κs = let k = c .before .before .before .before .before .befo
 
 returns : tie.Need-returns
 returns c = let m = c .before .before .before .before .before .before .before .before in
-    let s = m .before .before .before .before .before .before .before in
+    let s = m .before .before .before .before .before .before in
     let a = s .args in
-    let h = m .before .before .before .before .before .pack-higher in
-    let b = m .before .before .before .before .before .before .blocking in
+    let h = m .before .before .before .before .before .others-of in
     let t = c .before .before .before .before .before .before .wide in
     let k = c .before .before .before .before .before .cost-of in
     let d = c .before .before .before .before .wide2 in
     c .in-time .ensures
     ∙ ap doesPass
-    (packed-verdict (a .t1) (a .partitions) (a .tasks) (a .task) (s .pre .0) (s .pre .1) (h .result .periods) (h .result .costs) (h .result .count) (h .ensures)
-    (b .result) (t .result) (k .result) (d .result) (b .ensures) (t .ensures) (k .ensures) (d .ensures))
+    (packed-verdict (a .t1) (a .partitions) (a .tasks) (a .task) (s .pre .0) (s .pre .1) (h .result .periods) (h .result .costs) (h .result .count) (h .ensures .1)
+    (h .result .blocking) (t .result) (k .result) (d .result) (h .ensures .0) (t .ensures) (k .ensures) (d .ensures))
 
 pub passes-spec : {M : Type 1} → statement M
 passes-spec =
     tie.close
     (tie.spec
-    blocking-requires
-    pack-higher-requires
+    others-of-requires
     shares-of-requires
     mul-mine
     array-copy-out-mine

@@ -1,6 +1,6 @@
 use native.Mathlib.Nat.{le-antisymm}
 use native.Mathlib.Omega.{arith}
-use mathlib.Core.Path.{_≡_, sym, _∙_, ap}
+use mathlib.Core.Path.{_≡_, sym, ap}
 use Prim.Native.Nat.{ℕ, _≤_, _-_}
 use Rattle.demand.proofs.Table.{lowerCost, lower-none, lower-next, blocking-lower}
 use borrow.Author.Needs.{needs}
@@ -57,20 +57,13 @@ loop-again c = let l = c .before .before .before .before .loop in
     let a = c .before .before .before .before .before .before .args in
     (omega arith, lower-next (a .t1) (a .t2) (a .task) (l .other) (l .most) (c .before .lower-cost .result) (c .larger .result) (l .inv .1) (c .before .lower-cost .ensures) (c .larger .ensures))
 
--- at the end the largest is that of all members
-all : (c : tie.After-loop Inv-loop μ-loop) → let a = c .before .before .before .args in c .before .loop .most ≡ lowerCost (a .t1) (a .t2) (a .task) (a .tasks)
-all c =
-    let a = c .before .before .before .args in
-    c .before .loop .inv .1 ∙ ap (λ (k : ℕ). lowerCost (a .t1) (a .t2) (a .task) k) (le-antisymm (c .before .loop .inv .0) (c .loop-test .left))
+less-one-requires : tie.Need-less-one-requires Inv-loop μ-loop
+less-one-requires c κs = search needs
 
 returns : tie.Need-returns Inv-loop μ-loop
-returns c = let a = c .before .before .before .before .args in omega (arith, all (c .before), blocking-lower (a .t1) (a .t2) (a .tasks) (a .task))
-
-sub-result : tie.Need-sub-result Inv-loop μ-loop
-sub-result c = search needs
-
-returns-2 : tie.Need-returns-2 Inv-loop μ-loop
-returns-2 c = let a = c .before .before .before .before .args in omega (arith, all (c .before), blocking-lower (a .t1) (a .t2) (a .tasks) (a .task))
+returns c = let a = c .before .before .before .before .args in
+    let l = c .before .before .loop in
+    omega (arith, c .less-one .ensures, l .inv .1, ap (λ (k : ℕ). lowerCost (a .t1) (a .t2) (a .task) k) (le-antisymm (l .inv .0) (c .before .loop-test .left)), blocking-lower (a .t1) (a .t2) (a .tasks) (a .task))
 
 pub blocking-spec : {M : Type 1} → statement M
 blocking-spec =
@@ -92,6 +85,5 @@ blocking-spec =
     add-other
     loop-less
     loop-again
-    returns
-    sub-result
-    returns-2)
+    less-one-requires
+    returns)

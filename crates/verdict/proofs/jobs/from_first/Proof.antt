@@ -17,7 +17,7 @@ add-end : tie.Need-add-end
 add-end c = let s = c in
     let a = s .args in
     let r = s .pre .1 in
-    omega (arith, first-near (packedWork (a .periods .now) (a .costs .now) (a .count)) (grows s) (a .blocking) (a .period) (a .cost) (a .deadline) r (a .first) (s .pre .2), r .cost-most, r .deadline-most, r .period-most)
+    omega (arith, first-near (packedWork (a .periods .now) (a .costs .now) (a .count)) (grows s) (a .blocking) (a .period) (a .cost) (a .deadline) r (a .first) (s .pre .3), r .cost-most, r .deadline-most, r .period-most)
 
 window-from-requires : tie.Need-window-from-requires
 window-from-requires c κs = let s = c in
@@ -27,8 +27,9 @@ window-from-requires c κs = let s = c in
       r .blocking-most,
       period-least (packedWork (a .periods .now) (a .costs .now) (a .count)) (grows s) (a .blocking) (a .period) (a .cost) (a .deadline) r,
       omega (arith, r .cost-most, r .deadline-most, r .period-most),
+      s .pre .2,
       omega (arith, r .cost-least),
-      after-first (packedWork (a .periods .now) (a .costs .now) (a .count)) (grows s) (a .blocking) (a .period) (a .cost) (a .deadline) r (a .first) (s .pre .2),
+      after-first (packedWork (a .periods .now) (a .costs .now) (a .count)) (grows s) (a .blocking) (a .period) (a .cost) (a .deadline) r (a .first) (s .pre .3),
     )
 
 enum-known-length : tie.Need-enum-known-length
@@ -54,13 +55,13 @@ returns-2 : tie.Need-returns-2
 returns-2 c = let s = c .before .before .before .before .before in
     let a = s .args in
     let r = s .pre .1 in
-    sym (late-first (packedWork (a .periods .now) (a .costs .now) (a .count)) (grows s) (a .blocking) (a .period) (a .cost) (a .deadline) r (c .before .before .length .given .0 .0) (closed (c .before)) (a .first) (s .pre .2) (c .if1 .taken))
+    sym (late-first (packedWork (a .periods .now) (a .costs .now) (a .count)) (grows s) (a .blocking) (a .period) (a .cost) (a .deadline) r (c .before .before .length .given .0 .0) (closed (c .before)) (a .first) (s .pre .3) (c .if1 .taken))
 
 later-jobs-requires : tie.Need-later-jobs-requires
 later-jobs-requires c κs = let s = c .before .before .before .before .before in
     let a = s .args in
     let r = s .pre .1 in
-    (s .pre .0, r, record { window = closed (c .before); start = s .pre .2; due = c .if1 .left })
+    (s .pre .0, r, record { window = closed (c .before); start = s .pre .3; due = c .if1 .left })
 
 returns-3 : tie.Need-returns-3
 returns-3 c = search needs

@@ -9,9 +9,6 @@ use borrow.Author.Needs.{needs}
 use Rattle.verdict.proofs.windows.asked_with.Statement.{statement}
 use Rattle.verdict.proofs.windows.asked_with.Tie as tie
 
-share-requires : tie.Need-share-requires
-share-requires c κs = search needs
-
 asked-of-requires : tie.Need-asked-of-requires
 asked-of-requires c κs = search needs
 
@@ -21,12 +18,12 @@ asked-by-requires c κs = search needs
 -- the sums
 sums :
     (c : tie.After-asked-by) →
-    let a = c .before .before .before .args in
+    let a = c .before .before .args in
     let x = c .before .asked-of .result in
     let y = c .asked-by .result in
     Below (together (packedWork (a .periods .now) (a .costs .now) (a .count)) (a .period) (a .cost)) (a .w) (x .all + y .all) (x .rest + y .rest) (x .slope + y .slope)
 sums c =
-    let a = c .before .before .before .args in
+    let a = c .before .before .args in
     let work = packedWork (a .periods .now) (a .costs .now) (a .count) in
     let x = c .before .asked-of .result in
     let y = c .asked-by .result in
@@ -36,22 +33,22 @@ small :
     (c : tie.After-asked-by) →
     let x = c .before .asked-of .result in
     let y = c .asked-by .result in
-    Small (c .before .before .before .args .count + 1) (x .all + y .all) (x .rest + y .rest) (x .slope + y .slope)
+    Small (c .before .before .args .count + 1) (x .all + y .all) (x .rest + y .rest) (x .slope + y .slope)
 small c =
-    let s = c .before .before .before in
+    let s = c .before .before in
     let a = s .args in
     let x = c .before .asked-of .result in
     let y = c .asked-by .result in
-    together-small (a .periods .now) (a .costs .now) (a .count) (a .period) (a .cost) (a .w) (s .pre .0 .fits) (s .pre .1) (x .all + y .all) (x .rest + y .rest) (x .slope + y .slope) (s .pre .2) (s .pre .3) (sums c)
+    together-small (a .periods .now) (a .costs .now) (a .count) (a .period) (a .cost) (a .w) (s .pre .0 .fits) (s .pre .1) (x .all + y .all) (x .rest + y .rest) (x .slope + y .slope) (s .pre .2) (s .pre .4) (sums c)
 
 add-t12 : tie.Need-add-t12
-add-t12 c = let k = c .before .before in omega (arith, small k .all-most, k .before .before .before .pre .0 .fits .few)
+add-t12 c = let k = c .before .before in omega (arith, small k .all-most, k .before .before .pre .0 .fits .few)
 
 add-t13 : tie.Need-add-t13
-add-t13 c = let k = c .before .before .before .before in omega (arith, small k .rest-most, k .before .before .before .pre .0 .fits .few)
+add-t13 c = let k = c .before .before .before .before in omega (arith, small k .rest-most, k .before .before .pre .0 .fits .few)
 
 add-t14 : tie.Need-add-t14
-add-t14 c = let k = c .before .before .before .before .before .before in omega (arith, small k .slope-most, k .before .before .before .pre .0 .fits .few)
+add-t14 c = let k = c .before .before .before .before .before .before in omega (arith, small k .slope-most, k .before .before .pre .0 .fits .few)
 
 returns : tie.Need-returns
 returns c = sums (c .before .before .before .before .before .before)
@@ -59,4 +56,4 @@ returns c = sums (c .before .before .before .before .before .before)
 pub asked-with-spec : {M : Type 1} → statement M
 asked-with-spec =
     tie.close
-    (tie.spec share-requires asked-of-requires asked-by-requires add-t12 add-t13 add-t14 returns)
+    (tie.spec asked-of-requires asked-by-requires add-t12 add-t13 add-t14 returns)

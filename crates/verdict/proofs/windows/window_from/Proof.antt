@@ -12,13 +12,13 @@ use Rattle.verdict.proofs.windows.window_from.Statement.{statement}
 use Rattle.verdict.proofs.windows.window_from.Tie as tie
 
 abbrev Inv-loop : tie.InvT-loop
-Inv-loop periods costs shares count blocking period cost from t₀ reach₀ t reach = (1 ≤ t) × Under (windowOver (packedWork periods costs count) blocking period cost) 1 t
+Inv-loop periods costs shares count blocking period cost share from t₀ reach₀ t reach = (1 ≤ t) × Under (windowOver (packedWork periods costs count) blocking period cost) 1 t
 
 abbrev μ-loop : tie.MeasureT-loop
-μ-loop periods costs shares count blocking period cost from t₀ reach₀ t reach = 1_000_001 - t
+μ-loop periods costs shares count blocking period cost share from t₀ reach₀ t reach = 1_000_001 - t
 
 loop-holds : tie.Need-loop-holds Inv-loop μ-loop
-loop-holds c = (c .pre .4, c .pre .5)
+loop-holds c = (c .pre .5, c .pre .6)
 
 sub-asked-with : tie.Need-sub-asked-with Inv-loop μ-loop
 sub-asked-with c = search needs
