@@ -3,7 +3,6 @@ mod members;
 mod ranks;
 
 pub use members::Others;
-pub use members::blocking;
 pub use members::cost_of;
 pub use members::larger;
 pub use members::others_of;

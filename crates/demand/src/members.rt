@@ -51,30 +51,6 @@ fn less_one(most: u64) -> u64
     most - 1
 }
 
-// The largest cost among lower-priority members, less 1.
-pub fn blocking(
-    table: [Task; Order::MOST_TASKS],
-    partitions: [u32; Order::MOST_TASKS],
-    tasks: usize,
-    task: usize,
-) -> u64
-    requires { ⌜ Sound table tasks × (task < tasks) ⌝ }
-    ensures { λ r. ⌜ r ≡ blockingOf table partitions tasks task ⌝ }
-{
-    let mine = table[task];
-    let home = partitions[task];
-    let mut most: u64 = 0;
-    let mut other: usize = 0;
-    while other < tasks {
-        let its = table[other];
-        let there = partitions[other];
-        let lower = lower_cost(home, mine.deadline, task, there, its, other);
-        most = larger(most, lower);
-        other += 1;
-    }
-    less_one(most)
-}
-
 // What the test asks of the other members: the blocking, and those that outrank one by period and cost, flat, for the searches.
 pub struct Others {
     pub blocking: u64,
@@ -83,6 +59,7 @@ pub struct Others {
     pub costs: [u64; Order::MOST_TASKS],
 }
 
+// In one pass over the tasks.
 pub fn others_of(
     table: [Task; Order::MOST_TASKS],
     partitions: [u32; Order::MOST_TASKS],
