@@ -1,3 +1,2 @@
 pub mod Field
-pub mod Packed
-pub mod Record
+pub mod Records

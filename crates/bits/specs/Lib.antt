@@ -1,2 +1,2 @@
 pub mod Field
-pub mod Packed
+pub mod Layout

@@ -4,7 +4,7 @@ ghost use mathlib.Core.List.{_++_};
 ghost use Prim.Native.Nat.{_+_, _*_, _^_, _≤_, _<_};
 ghost use lib.ListN.{length, getD, drop};
 ghost use Rattle.bits.specs.Field.{field};
-ghost use Rattle.bits.specs.Packed.{packed};
+ghost use Rattle.bits.specs.Layout.{packed};
 
 // The next bit to take.
 pub struct Cursor {
@@ -29,9 +29,9 @@ fn byte_at(s: &[u8], i: usize) -> u64
     if i < s.len() { wide(s[i]) } else { 0 }
 }
 
-// Some whole bytes as one number.
-fn number_at(s: &[u8], from: usize, count: usize) -> u64
-    requires { ⌜ (from ≤ 131072) × (count ≤ 5) ⌝ }
+// Some whole bytes as one number, zero past the end.
+pub fn number_at(s: &[u8], from: usize, count: usize) -> u64
+    requires { ⌜ (from ≤ 131072) × (count ≤ 8) ⌝ }
     ensures { λ r. ⌜ r ≡ field (now (s .entry)) (8 * from) (8 * count) ⌝ }
 {
     let mut number: u64 = 0;

@@ -2,30 +2,36 @@
 use mathlib.Core.Path.{_≡_, sym, subst}
 use mathlib.Core.List.{List}
 use Prim.Native.Nat.{ℕ, _≤_, _<_}
+use native.Mathlib.Omega.{arith}
 use Rattle.laws.proofs.Filled.{filled-in}
+use Rattle.bits.specs.Layout.{FitIn, numbersAt}
 use Rattle.bits.proofs.Field.{field-lt}
-use Rattle.model.specs.Limits.{mostTasks, mostPartitions, zeroPartition, zeroMember}
-use Rattle.build.specs.Build.{placeOf, memberOf, buildHeaderOf, partitionAt, memberAt, buildAt, PartitionFits, MemberFits, FieldsFit}
-
-pub partition-fits : (s : List ℕ) (i : ℕ) → PartitionFits (partitionAt s i)
-unfolding partitionAt
-partition-fits s i = record { volume = field-lt s _ 7; first = field-lt s _ 6 }
-
-pub member-fits : (s : List ℕ) (partitions i : ℕ) → MemberFits (memberAt s partitions i)
-unfolding memberAt
-member-fits s partitions i = record { partition = field-lt s _ 6; rank = field-lt s _ 5; response = field-lt s _ 20 }
-
--- a header that was read has fields that fit
-pub header-fits : (s : List ℕ) → (buildHeaderOf s .processors < 128) × (buildHeaderOf s .tasks < 64) × (buildHeaderOf s .partitions < 128)
-unfolding buildHeaderOf
-header-fits s = (field-lt s 4 7, field-lt s 11 6, field-lt s 17 7)
+use Rattle.bits.proofs.Records.{fit-at}
+use Rattle.model.specs.declared.build.Partition.{Partition}
+use Rattle.model.specs.declared.build.Member.{Member}
+use Rattle.model.specs.Limits.{mostTasks, mostPartitions, zeroPartition, zeroMember, placeOf, memberOf}
+use Rattle.model.specs.Layouts.{buildHeader, partitionRecord, memberRecord}
+use Rattle.build.specs.Build.{buildHeaderNumbers, buildHeaderOf, partitionNumbers, partitionFields, partitionAt, memberNumbers, memberFields, memberAt, buildAt, FieldsFit}
 
 module _ (s : List ℕ) where
-  pub place-at : (i : ℕ) → i < buildHeaderOf s .partitions → placeOf (buildAt s .places) i ≡ partitionAt s i
-  unfolding buildAt
-  place-at i below = filled-in (partitionAt s) zeroPartition mostPartitions (buildHeaderOf s .partitions) i below
+  -- a header that was read has fields that fit
+  pub header-fits : FitIn buildHeader (buildHeaderNumbers (buildHeaderOf s))
+  unfolding buildHeaderOf numbersAt
+  header-fits = fit-at s 0 buildHeader
 
-  pub member-at : (i : ℕ) → i < buildHeaderOf s .tasks → memberOf (buildAt s .members) i ≡ memberAt s (buildHeaderOf s .partitions) i
+  partition-fits : (p : ℕ) → FitIn (partitionRecord 1) (partitionNumbers (partitionAt s p) 0)
+  unfolding partitionFields numbersAt
+  partition-fits p = (field-lt s _ 7, (field-lt s _ 6, (omega arith, tt)))
+
+  member-fits : (partitions i : ℕ) → FitIn memberRecord (memberNumbers (memberAt s partitions i) 0)
+  unfolding memberFields numbersAt
+  member-fits partitions i = (field-lt s _ 6, (field-lt s _ 5, (field-lt s _ 20, (omega arith, tt))))
+
+  pub place-at : (p : ℕ) → p < buildHeaderOf s .partitions → placeOf (buildAt s) p ≡ partitionAt s p
+  unfolding buildAt
+  place-at p below = filled-in (partitionAt s) zeroPartition mostPartitions (buildHeaderOf s .partitions) p below
+
+  pub member-at : (i : ℕ) → i < buildHeaderOf s .tasks → memberOf (buildAt s) i ≡ memberAt s (buildHeaderOf s .partitions) i
   unfolding buildAt
   member-at i below = filled-in (memberAt s (buildHeaderOf s .partitions)) zeroMember mostTasks (buildHeaderOf s .tasks) i below
 
@@ -33,9 +39,9 @@ module _ (s : List ℕ) where
   unfolding buildAt
   build-fits few-partitions few-tasks =
       record {
-        processors = header-fits s .0;
+        processors = header-fits .1 .0;
         tasks = few-tasks;
         partitions = few-partitions;
-        each-place = λ i l. subst PartitionFits (sym (place-at i l)) (partition-fits s i);
-        each-member = λ i l. subst MemberFits (sym (member-at i l)) (member-fits s (buildHeaderOf s .partitions) i);
+        each-place = λ p l. subst (λ (place : Partition). FitIn (partitionRecord 1) (partitionNumbers place 0)) (sym (place-at p l)) (partition-fits p);
+        each-member = λ i l. subst (λ (member : Member). FitIn memberRecord (memberNumbers member 0)) (sym (member-at i l)) (member-fits (buildHeaderOf s .partitions) i);
       }

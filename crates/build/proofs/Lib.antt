@@ -1,3 +1,3 @@
+pub mod Bytes
 pub mod Records
-pub mod Trip
 pub mod Fits

@@ -1,75 +1,56 @@
--- Laws of the build's records: the bytes of each as the code's number, their lengths, one more, and all together.
-use mathlib.Core.Path.{_≡_, ap}
-use mathlib.Core.List.{List, [], _++_}
-use Prim.Native.Nat.{ℕ, _+_, _*_}
-use native.Mathlib.Omega.{arith}
-use lib.ListN.{length, length-append}
-use Rattle.laws.proofs.Joined.{joined-none, joined-more, length-joined}
-use Rattle.bits.specs.Packed.{packed, widthOf, numberOf, bytesOf}
-use Rattle.bits.proofs.Packed.{length-bytes}
-use Rattle.model.specs.declared.build.Partition.{Partition}
-use Rattle.model.specs.declared.build.Member.{Member}
-use Rattle.model.specs.declared.build.Build.{Build}
-use Rattle.build.specs.Build.{placeOf, memberOf, buildHeaderSlots, partitionSlots, memberSlots, partitionBytes, memberBytes, recordBytes}
+-- Laws of the build's records as they are taken: the fields cut from a record's one number, and one record more without spare bits.
+use mathlib.Core.Path.{_≡_, refl, sym, ap, _∙_}
+use mathlib.Core.Bool.{Bool, true, _&&_}
+use mathlib.Core.List.{List, [], _∷_}
+use Prim.Native.Nat.{ℕ, _+_, _/_, _%_, _^_}
+use native.Mathlib.Nat.{add-zero, zero-add, add-assoc}
+use native.Mathlib.Numerals.{add-one}
+use lib.Dec.{eqb}
+use Rattle.laws.specs.Every.{every}
+use Rattle.bits.specs.Field.{field}
+use Rattle.bits.proofs.Field.{field-within}
+use Rattle.bits.specs.Layout.{Layout, bitsIn, numbersAt}
+use Rattle.build.specs.Build.{partitionSpareAt, memberSpareAt}
+use Rattle.build.specs.Taken.{partitionsClear, membersClear}
 
-pub header-number : (processors tasks partitions : ℕ) →
-    packed 3 (((128 + processors) * 64 + tasks) * 128 + partitions) ≡ bytesOf (buildHeaderSlots processors tasks partitions)
-unfolding bytesOf widthOf numberOf
-header-number processors tasks partitions = ap (packed 3) (omega arith)
+-- a record's one number, cut into its fields
+abbrev pub cutBy : Layout → ℕ → List ℕ
+cutBy [] number = []
+cutBy (width ∷ layout) number = (number / 2 ^ bitsIn layout % 2 ^ width) ∷ cutBy layout number
 
-pub partition-number : (place : Partition) → packed 2 ((place .volume * 64 + place .first) * 8) ≡ bytesOf (partitionSlots place)
-unfolding bytesOf widthOf numberOf
-partition-number place = ap (packed 2) (omega arith)
+-- the same from behind so many bits on
+cut-behind : (s : List ℕ) (layout : Layout) (at front : ℕ) → numbersAt s (at + front) layout ≡ cutBy layout (field s at (front + bitsIn layout))
+unfolding numbersAt
+cut-behind s [] at front = refl
+cut-behind s (width ∷ layout) at front =
+    let k = bitsIn layout in
+    let e : front + (width + k) ≡ front + width + k = sym (add-assoc front width k) in
+    let tail : numbersAt s (at + front + width) layout ≡ cutBy layout (field s at (front + width + k)) =
+    ap (λ (x : ℕ). numbersAt s x layout) (add-assoc at front width) ∙ cut-behind s layout at (front + width) in
+    rw (e, field-within s at front width k, tail)
 
-pub member-number : (member : Member) →
-    packed 4 (((member .partition * 32 + member .rank) * 1_048_576 + member .response) * 2) ≡ bytesOf (memberSlots member)
-unfolding bytesOf widthOf numberOf
-member-number member = ap (packed 4) (omega arith)
+pub cut-at : (s : List ℕ) (at : ℕ) (layout : Layout) (number : ℕ) → number ≡ field s at (bitsIn layout) → numbersAt s at layout ≡ cutBy layout number
+cut-at s at layout number e =
+    ap (λ (x : ℕ). numbersAt s x layout) (sym (add-zero at)) ∙ cut-behind s layout at 0 ∙ ap (λ (n : ℕ). cutBy layout (field s at n)) (zero-add (bitsIn layout)) ∙ rw e
 
-pub length-header : (processors tasks partitions : ℕ) → length (bytesOf (buildHeaderSlots processors tasks partitions)) ≡ 3
-unfolding widthOf
-length-header processors tasks partitions = length-bytes (buildHeaderSlots processors tasks partitions)
+-- a test of each number below a bound, and one more
+every-next : (passes : ℕ → Bool) (n : ℕ) → every passes (n + 1) ≡ (every passes n && passes n)
+unfolding every
+every-next passes n = rw add-one
 
-pub length-partition : (place : Partition) → length (bytesOf (partitionSlots place)) ≡ 2
-unfolding widthOf
-length-partition place = length-bytes (partitionSlots place)
+module _ (s : List ℕ) where
+  pub partitions-none : true ≡ partitionsClear s 0
+  unfolding partitionsClear every
+  partitions-none = refl
 
-pub length-member : (member : Member) → length (bytesOf (memberSlots member)) ≡ 4
-unfolding widthOf
-length-member member = length-bytes (memberSlots member)
+  pub partitions-next : (i : ℕ) → partitionsClear s (i + 1) ≡ (partitionsClear s i && eqb (partitionSpareAt s i) 0)
+  unfolding partitionsClear
+  partitions-next i = every-next (λ p. eqb (partitionSpareAt s p) 0) i
 
-module _ (places : List Partition) where
-  abbrev placeBytes : ℕ → List ℕ
-  placeBytes i = bytesOf (partitionSlots (placeOf places i))
+  pub members-none : (partitions : ℕ) → true ≡ membersClear s partitions 0
+  unfolding membersClear every
+  members-none partitions = refl
 
-  pub partitions-none : partitionBytes places 0 ≡ []
-  unfolding partitionBytes
-  partitions-none = joined-none placeBytes
-
-  pub partitions-more : (i : ℕ) → partitionBytes places (i + 1) ≡ partitionBytes places i ++ bytesOf (partitionSlots (placeOf places i))
-  unfolding partitionBytes
-  partitions-more i = joined-more placeBytes i
-
-  pub length-partitions : (count : ℕ) → length (partitionBytes places count) ≡ 2 * count
-  unfolding partitionBytes
-  length-partitions count = length-joined placeBytes 2 count (λ i. length-partition (placeOf places i))
-
-module _ (members : List Member) where
-  abbrev taskBytes : ℕ → List ℕ
-  taskBytes i = bytesOf (memberSlots (memberOf members i))
-
-  pub members-none : memberBytes members 0 ≡ []
-  unfolding memberBytes
-  members-none = joined-none taskBytes
-
-  pub members-more : (i : ℕ) → memberBytes members (i + 1) ≡ memberBytes members i ++ bytesOf (memberSlots (memberOf members i))
-  unfolding memberBytes
-  members-more i = joined-more taskBytes i
-
-  pub length-members : (count : ℕ) → length (memberBytes members count) ≡ 4 * count
-  unfolding memberBytes
-  length-members count = length-joined taskBytes 4 count (λ i. length-member (memberOf members i))
-
-pub length-records : (b : Build) → length (recordBytes b) ≡ 2 * b .partitions + 4 * b .tasks
-unfolding recordBytes
-length-records b = rw (length-append, length-partitions (b .places) (b .partitions), length-members (b .members) (b .tasks))
+  pub members-next : (partitions i : ℕ) → membersClear s partitions (i + 1) ≡ (membersClear s partitions i && eqb (memberSpareAt s partitions i) 0)
+  unfolding membersClear
+  members-next partitions i = every-next (λ k. eqb (memberSpareAt s partitions k) 0) i

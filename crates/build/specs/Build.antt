@@ -1,76 +1,60 @@
--- "Bits on the wire", the build: its fields, its bytes, and the build that stands in some bytes.
-use Prim.Native.Nat.{ℕ, _+_, _*_, _≤_, _<_}
+-- "Bits on the wire", the build: its records, its bytes, and the build that stands in some bytes.
+use Prim.Native.Nat.{ℕ, _+_, _*_, _≤_, _<_, _^_}
 use mathlib.Core.List.{List, [], _∷_, _++_}
 use lib.ListN.{getD}
 use Rattle.laws.specs.Joined.{joined, filled}
-use Rattle.bits.specs.Field.{field}
-use Rattle.bits.specs.Packed.{Slot, slot, bytesOf}
+use Rattle.bits.specs.Layout.{bytesIn, recordBytes, FitIn, numbersAt}
 use Rattle.model.specs.declared.build.Partition.{Partition}
 use Rattle.model.specs.declared.build.Member.{Member}
 use Rattle.model.specs.declared.build.Build.{Build}
-use Rattle.model.specs.Limits.{mostTasks, mostPartitions, buildLength, zeroPartition, zeroMember}
-use Rattle.build.specs.declared.read.BuildHeader.{BuildHeader}
+use Rattle.model.specs.Limits.{mostTasks, mostPartitions, zeroPartition, zeroMember, placeOf, memberOf}
+use Rattle.model.specs.Layouts.{buildHeader, partitionRecord, memberRecord, buildLength}
+use Rattle.build.specs.declared.BuildHeader.{BuildHeader}
 
--- partition i of a build's places
-abbrev pub placeOf : List Partition → ℕ → Partition
-placeOf places i = getD places i zeroPartition
+-- a header as the numbers in its fields: "version 4 (=1), M 7, n 6, partition count p 7"; and the header that such numbers make
+abbrev pub buildHeaderNumbers : BuildHeader → List ℕ
+buildHeaderNumbers header = header .version ∷ header .processors ∷ header .tasks ∷ header .partitions ∷ []
 
--- task i of a build's members
-abbrev pub memberOf : List Member → ℕ → Member
-memberOf members i = getD members i zeroMember
+abbrev pub buildHeaderFrom : List ℕ → BuildHeader
+buildHeaderFrom numbers = record { version = getD numbers 0 0; processors = getD numbers 1 0; tasks = getD numbers 2 0; partitions = getD numbers 3 0 }
 
--- "Build: version 4 (=1), M 7, n 6, partition count p 7"
+-- a partition as the numbers in its record's fields, with its spare bits: "volume 7, first processor 6, spare 3"; and back
+abbrev pub partitionNumbers : Partition → (spare : ℕ) → List ℕ
+partitionNumbers place spare = place .volume ∷ place .first ∷ spare ∷ []
+
+abbrev pub partitionFrom : List ℕ → Partition
+partitionFrom numbers = record { volume = getD numbers 0 0; first = getD numbers 1 0 }
+
+-- a task's record as the numbers in its fields, with its spare bit: "partition 6, rank 5, worst response 20, spare 1"; and back
+abbrev pub memberNumbers : Member → (spare : ℕ) → List ℕ
+memberNumbers member spare = member .partition ∷ member .rank ∷ member .response ∷ spare ∷ []
+
+abbrev pub memberFrom : List ℕ → Member
+memberFrom numbers = record { partition = getD numbers 0 0; rank = getD numbers 1 0; response = getD numbers 2 0 }
+
+-- the header that stands in the bytes
 unfoldable pub buildHeaderOf : List ℕ → BuildHeader
-buildHeaderOf s = record { version = field s 0 4; processors = field s 4 7; tasks = field s 11 6; partitions = field s 17 7 }
+buildHeaderOf s = buildHeaderFrom (numbersAt s 0 buildHeader)
 
-abbrev pub buildHeaderSlots : ℕ → ℕ → ℕ → List Slot
-buildHeaderSlots processors tasks partitions = slot 4 1 ∷ slot 7 processors ∷ slot 6 tasks ∷ slot 7 partitions ∷ []
+-- the numbers in the record of partition p
+unfoldable pub partitionFields : List ℕ → ℕ → List ℕ
+partitionFields s p = numbersAt s (8 * buildLength 1 p 0) (partitionRecord 1)
 
--- where the record of a partition begins, in bits
-abbrev pub partitionStart : ℕ → ℕ
-partitionStart i = 8 * (3 + 2 * i)
+abbrev pub partitionAt : List ℕ → ℕ → Partition
+partitionAt s p = partitionFrom (partitionFields s p)
 
--- "then per partition volume 7, first processor 6, spare 3"
-unfoldable pub partitionAt : List ℕ → ℕ → Partition
-partitionAt s i = record { volume = field s (partitionStart i) 7; first = field s (partitionStart i + 7) 6 }
+abbrev pub partitionSpareAt : List ℕ → ℕ → ℕ
+partitionSpareAt s p = getD (partitionFields s p) 2 0
 
-unfoldable pub partitionSpareAt : List ℕ → ℕ → ℕ
-partitionSpareAt s i = field s (partitionStart i + 13) 3
+-- the numbers in the record of task i, behind so many partitions
+unfoldable pub memberFields : List ℕ → (partitions i : ℕ) → List ℕ
+memberFields s partitions i = numbersAt s (8 * buildLength 1 partitions i) memberRecord
 
-abbrev pub partitionSlots : Partition → List Slot
-partitionSlots place = slot 7 (place .volume) ∷ slot 6 (place .first) ∷ slot 3 0 ∷ []
+abbrev pub memberAt : List ℕ → (partitions i : ℕ) → Member
+memberAt s partitions i = memberFrom (memberFields s partitions i)
 
--- where the record of a task begins, in bits, behind so many partitions
-abbrev pub memberStart : ℕ → ℕ → ℕ
-memberStart partitions i = 8 * buildLength partitions i
-
--- "then per task partition 6, rank 5, worst response 20, spare 1"
-unfoldable pub memberAt : List ℕ → ℕ → ℕ → Member
-memberAt s partitions i =
-    record {
-      partition = field s (memberStart partitions i) 6;
-      rank = field s (memberStart partitions i + 6) 5;
-      response = field s (memberStart partitions i + 6 + 5) 20;
-    }
-
-unfoldable pub memberSpareAt : List ℕ → ℕ → ℕ → ℕ
-memberSpareAt s partitions i = field s (memberStart partitions i + 31) 1
-
-abbrev pub memberSlots : Member → List Slot
-memberSlots member = slot 6 (member .partition) ∷ slot 5 (member .rank) ∷ slot 20 (member .response) ∷ slot 1 0 ∷ []
-
--- "Partition records, then task records": the bytes of a build
-unfoldable pub partitionBytes : List Partition → ℕ → List ℕ
-partitionBytes places partitions = joined (λ i. bytesOf (partitionSlots (placeOf places i))) partitions
-
-unfoldable pub memberBytes : List Member → ℕ → List ℕ
-memberBytes members tasks = joined (λ i. bytesOf (memberSlots (memberOf members i))) tasks
-
-unfoldable pub recordBytes : Build → List ℕ
-recordBytes b = partitionBytes (b .places) (b .partitions) ++ memberBytes (b .members) (b .tasks)
-
-unfoldable pub buildBytes : Build → List ℕ
-buildBytes b = bytesOf (buildHeaderSlots (b .processors) (b .tasks) (b .partitions)) ++ recordBytes b
+abbrev pub memberSpareAt : List ℕ → (partitions i : ℕ) → ℕ
+memberSpareAt s partitions i = getD (memberFields s partitions i) 3 0
 
 -- the build that stands in the bytes, zero past its counts
 unfoldable pub buildAt : List ℕ → Build
@@ -84,19 +68,23 @@ buildAt s =
       members = filled (memberAt s (header .partitions)) zeroMember mostTasks (header .tasks);
     }
 
--- each field fits its bits
-pub record PartitionFits (place : Partition) : Type 0 where
-  pub volume : place .volume < 128
-  pub first : place .first < 64
+-- "Partition records, then task records": the bytes of a build; "Spare bits are zero."
+unfoldable pub partitionBytes : Build → (partitions : ℕ) → List ℕ
+partitionBytes b partitions = joined (λ p. recordBytes (partitionRecord 1) (partitionNumbers (placeOf b p) 0)) partitions
 
-pub record MemberFits (member : Member) : Type 0 where
-  pub partition : member .partition < 64
-  pub rank : member .rank < 32
-  pub response : member .response < 1_048_576
+unfoldable pub memberBytes : Build → (tasks : ℕ) → List ℕ
+memberBytes b tasks = joined (λ i. recordBytes memberRecord (memberNumbers (memberOf b i) 0)) tasks
 
+abbrev pub buildHeaderFor : Build → BuildHeader
+buildHeaderFor b = record { version = 1; processors = b .processors; tasks = b .tasks; partitions = b .partitions }
+
+unfoldable pub buildBytes : Build → List ℕ
+buildBytes b = recordBytes buildHeader (buildHeaderNumbers (buildHeaderFor b)) ++ (partitionBytes b (b .partitions) ++ memberBytes b (b .tasks))
+
+-- each number fits its field
 pub record FieldsFit (b : Build) : Type 0 where
-  pub processors : b .processors < 128
+  pub processors : b .processors < 2 ^ 7
   pub tasks : b .tasks ≤ mostTasks
   pub partitions : b .partitions ≤ mostPartitions
-  pub each-place : (i : ℕ) → i < b .partitions → PartitionFits (placeOf (b .places) i)
-  pub each-member : (i : ℕ) → i < b .tasks → MemberFits (memberOf (b .members) i)
+  pub each-place : (p : ℕ) → p < b .partitions → FitIn (partitionRecord 1) (partitionNumbers (placeOf b p) 0)
+  pub each-member : (i : ℕ) → i < b .tasks → FitIn memberRecord (memberNumbers (memberOf b i) 0)

@@ -37,6 +37,3 @@ module _ (higher : ℕ → Bool) (i n : ℕ) where
 
   pub both-same : (f g : ℕ → ℕ) → ((k : ℕ) → f k ≡ g k) → overBoth higher i n f ≡ overBoth higher i n g
   both-same f g h = omega (arith, h i, higher-same higher n f g h)
-
-  pub both-le : (f g : ℕ → ℕ) → ((k : ℕ) → f k ≤ g k) → overBoth higher i n f ≤ overBoth higher i n g
-  both-le f g h = omega (arith, h i, higher-le higher n f g h)

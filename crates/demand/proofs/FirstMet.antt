@@ -8,7 +8,8 @@ use borrow.Author.Tests.{le-leb, lt-leb, leb-true, leb-false}
 use Rattle.model.specs.Limits.{horizon}
 use Rattle.search.specs.Smallest.{Answers}
 use Rattle.search.proofs.Smallest.{smallest-at, smallest-none, smallest-is, smallest-same}
-use Rattle.demand.specs.Kinds.{Found, At, Nothing}
+use Rattle.search.specs.declared.Found.{Found}
+use Rattle.search.specs.declared.Found.the-variants.{At, Nothing}
 use Rattle.demand.specs.Test.{firstMet}
 use Rattle.demand.specs.Meaning.{FirstMetAt, NeverMet}
 

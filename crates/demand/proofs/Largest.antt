@@ -9,8 +9,9 @@ use native.Mathlib.Omega.{arith}
 use mathlib.Core.Bool.{Bool}
 use borrow.Author.Tests.{le-leb, lt-leb}
 use Rattle.laws.specs.Choice.{pick}
-use Rattle.demand.specs.Kinds.{Found, At, Nothing, Passes, Late}
-use Rattle.demand.specs.Test.{largerFound, largestFound, judged}
+use Rattle.search.specs.declared.Found.{Found}
+use Rattle.search.specs.declared.Found.the-variants.{At, Nothing}
+use Rattle.demand.specs.Test.{Passes, TooLate, largerFound, largestFound, judged}
 
 pub at-one : (x y : ℕ) → _≡_ {A = Found} (At x) (At y) → x ≡ y
 at-one x y e = cc e
@@ -71,13 +72,13 @@ module _ (f : ℕ → Found) where
       (max (was .0) (here .0), rw (was .1, here .1))
 
   -- one late response is enough
-  pub judged-late : (k deadline q x : ℕ) → ((q : ℕ) → q < k → (x : ℕ) × (f q ≡ At x)) → q < k → f q ≡ At x → deadline < x → judged deadline (largestFound f k) ≡ Late
+  pub judged-late : (k deadline q x : ℕ) → ((q : ℕ) → q < k → (x : ℕ) × (f q ≡ At x)) → q < k → f q ≡ At x → deadline < x → judged deadline (largestFound f k) ≡ TooLate
   judged-late k deadline q x all l e late =
       let most = largest-there k all in
       let r = largest-says k (most .0) (most .1) .each q l in
       let v : _≡_ {A = Found} (At (r .0)) (At x) = sym (r .1) ∙ e in
       ap (judged deadline) (most .1)
-      ∙ ap (λ (b : Bool). pick b (Passes (most .0)) Late) (lt-leb (most .0) deadline (omega (arith, at-one (r .0) x v, r .2)))
+      ∙ ap (λ (b : Bool). pick b (Passes (most .0)) TooLate) (lt-leb (most .0) deadline (omega (arith, at-one (r .0) x v, r .2)))
 
   pub judged-passes : (k deadline m : ℕ) → largestFound f k ≡ At m → m ≤ deadline → judged deadline (largestFound f k) ≡ Passes m
-  judged-passes k deadline m e le = ap (judged deadline) e ∙ ap (λ (b : Bool). pick b (Passes m) Late) (le-leb m deadline le)
+  judged-passes k deadline m e le = ap (judged deadline) e ∙ ap (λ (b : Bool). pick b (Passes m) TooLate) (le-leb m deadline le)

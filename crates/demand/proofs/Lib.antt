@@ -2,10 +2,8 @@ pub mod Releases
 pub mod Priority
 pub mod FirstMet
 pub mod Over
-pub mod Table
+pub mod Demands
 pub mod Largest
 pub mod Meaning
-pub mod Packed
 pub mod Membership
 pub mod Newcomer
-pub mod Within

@@ -1,6 +1,5 @@
-pub mod Kinds
 pub mod Priority
 pub mod Releases
 pub mod Test
+pub mod Over
 pub mod Meaning
-pub mod Packed

@@ -1,36 +1,35 @@
 -- "Within one partition, smaller D has higher priority; equal D goes by lower task number. Rank is the number of higher-priority members."
 use mathlib.Core.Bool.{Bool, _&&_, _||_}
-use mathlib.Core.List.{List}
 use Prim.Native.Nat.{ℕ}
 use lib.Dec.{ltb, eqb}
-use lib.ListN.{getD}
 use Rattle.laws.specs.Sums.{only, sum}
-use Rattle.model.specs.Limits.{taskOf}
-use Rattle.demand.specs.Kinds.{Task}
+use Rattle.model.specs.declared.order.Order.{Order}
+use Rattle.model.specs.declared.build.Build.{Build}
+use Rattle.model.specs.Limits.{taskOf, homeOf}
 
-abbrev pub deadlineOf : List Task → ℕ → ℕ
-deadlineOf table i = taskOf table i .deadline
+-- the members of a partition: which of an order's tasks they are
+abbrev pub Members : Type 0
+Members = ℕ → Bool
 
--- "smaller D has higher priority; equal D goes by lower task number": task a with deadline d, over task b with deadline e
-unfoldable pub outranks : ℕ → ℕ → ℕ → ℕ → Bool
-outranks d a e b = ltb d e || (eqb d e && ltb a b)
+-- those of partition p, as a build records them
+unfoldable pub membersOf : Build → (p : ℕ) → Members
+membersOf b p task = eqb (homeOf b task) p
 
--- task j is in task i's partition; every question of membership is this one
-unfoldable pub inPartition : List ℕ → ℕ → ℕ → Bool
-inPartition partitions i j = eqb (getD partitions j 0) (getD partitions i 0)
+abbrev pub deadlineOf : Order → ℕ → ℕ
+deadlineOf o i = taskOf o i .deadline
+
+-- "smaller D has higher priority; equal D goes by lower task number": task j over task i
+unfoldable pub outranks : Order → (j i : ℕ) → Bool
+outranks o j i = ltb (deadlineOf o j) (deadlineOf o i) || (eqb (deadlineOf o j) (deadlineOf o i) && ltb j i)
 
 -- j is a higher-priority member than i
-unfoldable pub higher : List Task → List ℕ → ℕ → ℕ → Bool
-higher table partitions i j = inPartition partitions i j && outranks (deadlineOf table j) j (deadlineOf table i) i
-
--- the same by the numbers it looks at: partitions p and q, deadlines d and e of tasks i and j
-unfoldable pub higherBy : (p d i q e j : ℕ) → Bool
-higherBy p d i q e j = eqb q p && outranks e j d i
+unfoldable pub higher : Order → Members → (i j : ℕ) → Bool
+higher o member i j = member j && outranks o j i
 
 -- j is a lower-priority member than i
-unfoldable pub lower : List Task → List ℕ → ℕ → ℕ → Bool
-lower table partitions i j = inPartition partitions i j && outranks (deadlineOf table i) i (deadlineOf table j) j
+unfoldable pub lower : Order → Members → (i j : ℕ) → Bool
+lower o member i j = member j && outranks o i j
 
--- "Rank is the number of higher-priority members.": of the n tasks of the table
-unfoldable pub rank : List Task → List ℕ → ℕ → ℕ → ℕ
-rank table partitions n i = sum (λ j. only (higher table partitions i j) 1) n
+-- "Rank is the number of higher-priority members."
+unfoldable pub rank : Order → Members → ℕ → ℕ
+rank o member i = sum (λ j. only (higher o member i j) 1) (o .tasks)

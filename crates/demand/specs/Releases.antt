@@ -1,31 +1,34 @@
--- How often a task is released, and how long its jobs take.
-use mathlib.Core.List.{List}
-use Prim.Native.Nat.{ℕ, _+_, _-_, _/_}
-use Rattle.model.specs.Limits.{taskOf}
-use Rattle.demand.specs.Kinds.{Task}
+-- How often a task is released, and how long those jobs take.
+use Prim.Native.Nat.{ℕ, _+_, _-_, _*_, _/_}
+use Rattle.model.specs.declared.order.Task.{Task}
+use Rattle.model.specs.declared.order.Order.{Order}
+use Rattle.model.specs.Limits.{taskOf, cost}
 
-abbrev pub periodOf : List Task → ℕ → ℕ
-periodOf table i = taskOf table i .period
+abbrev pub periodOf : Order → ℕ → ℕ
+periodOf o i = taskOf o i .period
 
--- C as the test reads it
-unfoldable pub cost : Task → ℕ
-cost task = task .run
-
-abbrev pub costOf : List Task → ℕ → ℕ
-costOf table i = cost (taskOf table i)
+abbrev pub costOf : Order → ℕ → ℕ
+costOf o i = cost (taskOf o i)
 
 -- t / T rounded up
 unfoldable pub ceilDiv : ℕ → ℕ → ℕ
 ceilDiv t T = (t + (T - 1)) / T
 
--- "ceil(t/T)": the releases of a task of period T within t ticks
-unfoldable pub releasesIn : ℕ → ℕ → ℕ
-releasesIn t T = ceilDiv t T
+-- "ceil(t/T)": the releases of a task within t ticks
+unfoldable pub releasesIn : Task → ℕ → ℕ
+releasesIn task t = ceilDiv t (task .period)
 
 -- "floor(w/T)+1": those from a tick to the tick w later, both counted
-unfoldable pub releasesBy : ℕ → ℕ → ℕ
-releasesBy w T = w / T + 1
+unfoldable pub releasesBy : Task → ℕ → ℕ
+releasesBy task w = w / task .period + 1
+
+-- "ceil(t/T)·C" and "(floor(w/T)+1)·C": the work of those releases
+unfoldable pub workIn : Task → ℕ → ℕ
+workIn task t = releasesIn task t * cost task
+
+unfoldable pub workBy : Task → ℕ → ℕ
+workBy task w = releasesBy task w * cost task
 
 -- "q = 0, 1, .. with q·T < L": how many q there are, as `jobs-are` of proofs/Releases.antt says
-unfoldable pub jobs : ℕ → ℕ → ℕ
-jobs L T = ceilDiv L T
+unfoldable pub jobs : Task → ℕ → ℕ
+jobs task L = ceilDiv L (task .period)

@@ -1,4 +1,4 @@
--- The work that a script releases, over all tasks and ticks, is at most its lengths together.
+-- The work that a script releases, over all tasks and ticks, is at most its durations together.
 use Prim.Native.Nat.{ℕ, zero, suc, _+_, _*_, _≤_, _<_}
 use mathlib.Core.Path.{_≡_, refl}
 use mathlib.Core.Bool.{Bool, true, false, _&&_}
@@ -13,7 +13,7 @@ use Rattle.laws.specs.Choice.{pick}
 use Rattle.laws.specs.Sums.{only, sum}
 use Rattle.laws.proofs.Sums.{sum-none, sum-suc, sum-le, sum-add, sum-zero}
 use Rattle.model.specs.declared.build.Release.{Release}
-use Rattle.machine.specs.Pattern.{recordOf, patternOf}
+use Rattle.machine.specs.Pattern.{recordOf, joinsAt, patternOf}
 
 -- at most one number of a range is a
 module _ (a : ℕ) (c : Bool) (x : ℕ) where
@@ -43,12 +43,12 @@ module _ (a : ℕ) (c : Bool) (x : ℕ) where
       go ih (no l) (yes g) = omega (arith, sum-suc here t, unequal t (λ e. omega arith))
       go ih (no l) (no g) = omega (arith, sum-suc here t, at-most t, sum-zero here t (λ j m. unequal j (λ e. omega arith)))
 
--- the lengths of a script's records, together
+-- the durations of a script's records, together
 unfoldable pub total : List Release → ℕ
 total [] = 0
-total (r ∷ script) = r .length + total script
+total (r ∷ script) = r .duration + total script
 
-pub total-most : (most : ℕ) (script : List Release) → ((i : ℕ) → i < length script → recordOf script i .length ≤ most) → total script ≤ length script * most
+pub total-most : (most : ℕ) (script : List Release) → ((i : ℕ) → i < length script → recordOf script i .duration ≤ most) → total script ≤ length script * most
 unfolding total
 total-most most [] each = omega arith
 total-most most (r ∷ script) each =
@@ -65,25 +65,25 @@ released-most (r ∷ script) n t =
     omega (
       arith,
       released-most script n t,
-      sum-le (λ k. sum (λ u. patternOf (r ∷ script) u k) t) (λ k. only (eqb (r .task) k && true) (r .length) + sum (λ u. patternOf script u k) t) n (λ k l. column k),
-      sum-add (λ k. only (eqb (r .task) k && true) (r .length)) (λ k. sum (λ u. patternOf script u k) t) n,
-      one-hit (r .task) true (r .length) n,
+      sum-le (λ k. sum (λ u. patternOf (r ∷ script) u k) t) (λ k. only (eqb (r .task) k && true) (r .duration) + sum (λ u. patternOf script u k) t) n (λ k l. column k),
+      sum-add (λ k. only (eqb (r .task) k && true) (r .duration)) (λ k. sum (λ u. patternOf script u k) t) n,
+      one-hit (r .task) true (r .duration) n,
     )
   where
     first-or-rest : (b : Bool) (x y : ℕ) → pick b x y ≤ only b x + y
     first-or-rest true x y = omega arith
     first-or-rest false x y = omega arith
 
-    and-true : (b : Bool) → only b (r .length) ≡ only (b && true) (r .length)
+    and-true : (b : Bool) → only b (r .duration) ≡ only (b && true) (r .duration)
     and-true true = refl
     and-true false = refl
 
-    column : (k : ℕ) → sum (λ u. patternOf (r ∷ script) u k) t ≤ only (eqb (r .task) k && true) (r .length) + sum (λ u. patternOf script u k) t
+    column : (k : ℕ) → sum (λ u. patternOf (r ∷ script) u k) t ≤ only (eqb (r .task) k && true) (r .duration) + sum (λ u. patternOf script u k) t
     column k =
         omega (
           arith,
-          sum-le (λ u. patternOf (r ∷ script) u k) (λ u. only (eqb (r .tick) u && eqb (r .task) k) (r .length) + patternOf script u k) t (λ u l. first-or-rest (eqb (r .tick) u && eqb (r .task) k) (r .length) (patternOf script u k)),
-          sum-add (λ u. only (eqb (r .tick) u && eqb (r .task) k) (r .length)) (λ u. patternOf script u k) t,
-          one-hit (r .tick) (eqb (r .task) k) (r .length) t,
+          sum-le (λ u. patternOf (r ∷ script) u k) (λ u. only (eqb (joinsAt r) u && eqb (r .task) k) (r .duration) + patternOf script u k) t (λ u l. first-or-rest (eqb (joinsAt r) u && eqb (r .task) k) (r .duration) (patternOf script u k)),
+          sum-add (λ u. only (eqb (joinsAt r) u && eqb (r .task) k) (r .duration)) (λ u. patternOf script u k) t,
+          one-hit (joinsAt r) (eqb (r .task) k) (r .duration) t,
           and-true (eqb (r .task) k),
         )

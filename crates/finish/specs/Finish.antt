@@ -8,11 +8,13 @@ use Rattle.laws.specs.Joined.{listed}
 use Rattle.search.specs.Smallest.{smallest}
 use Rattle.search.specs.declared.Found.{Found}
 use Rattle.search.specs.declared.Found.the-variants.{At, Nothing}
-use Rattle.model.specs.declared.order.Task.{Task}
+use Rattle.model.specs.declared.order.Order.{Order}
+use Rattle.model.specs.declared.build.Build.{Build}
 use Rattle.model.specs.declared.build.Release.{Release}
+use Rattle.model.specs.Limits.{homeOf}
 use Rattle.machine.specs.Step.{Pattern, Running, free, runs}
 use Rattle.machine.specs.Pattern.{recordOf, patternOf}
-use Rattle.machine.specs.Box.{partitionOf, boxBefore}
+use Rattle.machine.specs.Box.{boxBefore}
 
 -- what runs is the job that a task released at a tick, and its time is used up
 unfoldable pub usedUp : (task release : ℕ) → Running → Bool
@@ -24,18 +26,17 @@ abbrev pub mostTick : ℕ
 mostTick = 4_294_967_295
 
 -- "a job whose time is used up ends, with finish tick t": the 32-bit tick at which the job that a task released at a tick ends
-unfoldable pub finishFound : List Task → List ℕ → (n : ℕ) → Pattern → (task release : ℕ) → Found
-finishFound table partitions n releases task release =
-    smallest (λ tick. usedUp task release (boxBefore table partitions n releases tick (partitionOf partitions task) .running)) 0 mostTick
+unfoldable pub finishFound : Order → Build → Pattern → (task release : ℕ) → Found
+finishFound o b releases task release = smallest (λ tick. usedUp task release (boxBefore o b releases tick (homeOf b task) .running)) 0 mostTick
 
 abbrev pub foundTick : Found → ℕ
 foundTick (At tick) = tick
 foundTick Nothing = 0
 
 -- the finish tick of record i; Claims.antt says that a legal script's job always has one
-unfoldable pub finishOf : List Task → List ℕ → (n : ℕ) → List Release → (i : ℕ) → ℕ
-finishOf table partitions n script i = foundTick (finishFound table partitions n (patternOf script) (recordOf script i .task) (recordOf script i .tick))
+unfoldable pub finishOf : Order → Build → List Release → (i : ℕ) → ℕ
+finishOf o b script i = foundTick (finishFound o b (patternOf script) (recordOf script i .task) (recordOf script i .tick))
 
 -- "one 32-bit finish tick per record"
-unfoldable pub finishTicks : List Task → List ℕ → (n : ℕ) → List Release → List ℕ
-finishTicks table partitions n script = listed (finishOf table partitions n script) (length script)
+unfoldable pub finishTicks : Order → Build → List Release → List ℕ
+finishTicks o b script = listed (finishOf o b script) (length script)

@@ -10,7 +10,7 @@ use lib.ListN.{length, getD, set, take, drop, replicate, length-append}
 use lib.Seq.{drop-at, set-at, append-snoc, getD-at, take-add, drop-drop}
 use Rattle.laws.specs.Joined.{joined, listed, filled}
 
-module _ {A : Type 0} where
+module _ {ℓ} {A : Type ℓ} where
   pub joined-none : (f : ℕ → List A) → joined f 0 ≡ []
   unfolding joined
   joined-none f = refl
@@ -48,6 +48,7 @@ module _ {A : Type 0} where
       let r = joined-at f n i below in
       (r .0, rw (r .1) (drop-at (joined f i) (f i ++ r .0) (k * i) (length-joined f k i each)))
 
+module _ {A : Type 0} where
   pub length-listed : (f : ℕ → A) (n : ℕ) → length (listed f n) ≡ n
   length-listed f n = length-joined (λ i. f i ∷ []) 1 n (λ i. refl) ∙ omega arith
 

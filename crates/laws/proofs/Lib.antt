@@ -8,3 +8,5 @@ pub mod Joined
 pub mod Only
 pub mod Picked
 pub mod Sums
+pub mod Overlaid
+pub mod Inserted

@@ -1,6 +1,6 @@
 -- Sums and the largest of what is given by number, with what counts picked by a test.
 use mathlib.Core.Bool.{Bool, true, false}
-use Prim.Native.Nat.{ℕ, zero, suc, _+_, max}
+use Prim.Native.Nat.{ℕ, zero, suc, _+_, min, max}
 
 -- x where the test passes, else 0
 abbrev pub only : Bool → ℕ → ℕ
@@ -16,3 +16,8 @@ sum f (suc n) = sum f n + f n
 unfoldable pub largest : (ℕ → ℕ) → ℕ → ℕ
 largest f zero = 0
 largest f (suc n) = max (largest f n) (f n)
+
+-- the least of f 0, f 1, .., f (n - 1), and a bound
+unfoldable pub least : (bound : ℕ) → (ℕ → ℕ) → ℕ → ℕ
+least bound f zero = bound
+least bound f (suc n) = min (least bound f n) (f n)

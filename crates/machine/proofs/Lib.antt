@@ -7,3 +7,4 @@ pub mod Isolation
 pub mod Quiet
 pub mod Script
 pub mod Box
+pub mod Last

@@ -1,4 +1,3 @@
-pub mod Kinds
 pub mod Step
 pub mod Pattern
 pub mod Box

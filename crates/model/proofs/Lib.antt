@@ -1,4 +1,3 @@
 pub mod Output
 pub mod Rules
-pub mod Stated
-pub mod Scan
+pub mod Ranges

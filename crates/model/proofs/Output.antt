@@ -6,7 +6,7 @@ use native.Mathlib.Omega.{arith}
 use lib.ListN.{length, drop, length-append, length-drop}
 use lib.Seq.{drop-at}
 use Rattle.model.specs.Kinds.{Answer, Done, Refused, Refusal}
-use Rattle.model.specs.Answer.{countOf, outputAfter, OnlyCountedFront}
+use Rattle.model.specs.Answer.{answerCount, outputAfter, OnlyCountedFront}
 
 pub after-done : (count : ℕ) (front output : List ℕ) → outputAfter (Done count) front output ≡ front ++ drop count output
 unfolding outputAfter
@@ -19,7 +19,7 @@ after-refused cause front output = refl
 -- where a done call counts the front that it writes, and the output has room for it
 pub only-counted-front : (answer : Answer) (front output : List ℕ) → ((count : ℕ) → answer ≡ Done count → (length front ≡ count) × (count ≤ length output)) →
     OnlyCountedFront answer output (outputAfter answer front output)
-unfolding outputAfter countOf
+unfolding outputAfter answerCount
 only-counted-front (Done count) front output room =
     let r = room count refl in
     record {

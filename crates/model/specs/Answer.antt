@@ -3,92 +3,117 @@ use Prim.Native.Nat.{ℕ}
 use mathlib.Core.Path.{_≡_}
 use mathlib.Core.List.{List, _++_}
 use lib.ListN.{length, drop}
-use Rattle.model.specs.Kinds.{Answer, Done, Refused, Refusal, OrderShort, OrderVersion, Processors, Tasks, OrderLength, HeaderSpare, TaskSpare, Width, Period, Deadline, RunTime, FirstFit, Output, Columns, BuildShort, BuildHeader, BuildLength, BuildSpare, PartitionPlace, TaskPartition, Rank, Window, Start, Late, Response, ScriptLength, RecordSpare, RecordTask, RecordOrder, JobLength, ReleaseGap, FinishPlaces}
+use Rattle.model.specs.Kinds.{Answer, Done, Refused, Refusal, OfOrder, OfCall, OfBuild, OfScript, OrderCause, OrderShort, OrderVersion, Processors, Tasks, OrderLength, HeaderSpare, TaskSpare, Width, Period, Deadline, RunTime, CallCause, FirstFit, Output, Columns, BuildCause, BuildShort, BuildMismatch, BuildLength, BuildSpare, PartitionPlace, TaskPartition, Rank, Window, Start, Late, Response, ScriptCause, ScriptLength, RecordSpare, RecordTask, RecordOrder, JobLength, ReleaseGap, FinishPlaces}
 
 -- "65,535 where none applies"
 abbrev pub noPlace : ℕ
 noPlace = 65535
 
-unfoldable pub causeNumber : Refusal → ℕ
-causeNumber OrderShort = 1
-causeNumber OrderVersion = 2
-causeNumber Processors = 3
-causeNumber Tasks = 4
-causeNumber OrderLength = 5
-causeNumber HeaderSpare = 6
-causeNumber (TaskSpare task) = 6
-causeNumber (Width task) = 7
-causeNumber (Period task) = 8
-causeNumber (Deadline task) = 9
-causeNumber (RunTime task) = 10
-causeNumber (FirstFit task) = 11
-causeNumber Output = 12
-causeNumber Columns = 13
-causeNumber BuildShort = 20
-causeNumber BuildHeader = 21
-causeNumber BuildLength = 22
-causeNumber BuildSpare = 23
-causeNumber (PartitionPlace partition) = 24
-causeNumber (TaskPartition task) = 25
-causeNumber (Rank task) = 26
-causeNumber (Window task) = 27
-causeNumber (Start task) = 28
-causeNumber (Late task) = 29
-causeNumber (Response task) = 30
-causeNumber ScriptLength = 40
-causeNumber (RecordSpare release) = 41
-causeNumber (RecordTask release) = 42
-causeNumber (RecordOrder release) = 43
-causeNumber (JobLength release) = 44
-causeNumber (ReleaseGap release) = 45
-causeNumber FinishPlaces = 46
+-- the table "No., Cause", by the thing refused: each cause's number and its place
+abbrev pub orderNumber : OrderCause → ℕ
+orderNumber OrderShort = 1
+orderNumber OrderVersion = 2
+orderNumber Processors = 3
+orderNumber Tasks = 4
+orderNumber OrderLength = 5
+orderNumber HeaderSpare = 6
+orderNumber (TaskSpare task) = 6
+orderNumber (Width task) = 7
+orderNumber (Period task) = 8
+orderNumber (Deadline task) = 9
+orderNumber (RunTime task) = 10
 
-unfoldable pub causePlace : Refusal → ℕ
-causePlace OrderShort = noPlace
-causePlace OrderVersion = noPlace
-causePlace Processors = noPlace
-causePlace Tasks = noPlace
-causePlace OrderLength = noPlace
-causePlace HeaderSpare = noPlace
-causePlace (TaskSpare task) = task
-causePlace (Width task) = task
-causePlace (Period task) = task
-causePlace (Deadline task) = task
-causePlace (RunTime task) = task
-causePlace (FirstFit task) = task
-causePlace Output = noPlace
-causePlace Columns = noPlace
-causePlace BuildShort = noPlace
-causePlace BuildHeader = noPlace
-causePlace BuildLength = noPlace
-causePlace BuildSpare = noPlace
-causePlace (PartitionPlace partition) = partition
-causePlace (TaskPartition task) = task
-causePlace (Rank task) = task
-causePlace (Window task) = task
-causePlace (Start task) = task
-causePlace (Late task) = task
-causePlace (Response task) = task
-causePlace ScriptLength = noPlace
-causePlace (RecordSpare release) = release
-causePlace (RecordTask release) = release
-causePlace (RecordOrder release) = release
-causePlace (JobLength release) = release
-causePlace (ReleaseGap release) = release
-causePlace FinishPlaces = noPlace
+abbrev pub orderPlace : OrderCause → ℕ
+orderPlace OrderShort = noPlace
+orderPlace OrderVersion = noPlace
+orderPlace Processors = noPlace
+orderPlace Tasks = noPlace
+orderPlace OrderLength = noPlace
+orderPlace HeaderSpare = noPlace
+orderPlace (TaskSpare task) = task
+orderPlace (Width task) = task
+orderPlace (Period task) = task
+orderPlace (Deadline task) = task
+orderPlace (RunTime task) = task
+
+abbrev pub callNumber : CallCause → ℕ
+callNumber (FirstFit task) = 11
+callNumber Output = 12
+callNumber Columns = 13
+
+abbrev pub callPlace : CallCause → ℕ
+callPlace (FirstFit task) = task
+callPlace Output = noPlace
+callPlace Columns = noPlace
+
+abbrev pub buildNumber : BuildCause → ℕ
+buildNumber BuildShort = 20
+buildNumber BuildMismatch = 21
+buildNumber BuildLength = 22
+buildNumber BuildSpare = 23
+buildNumber (PartitionPlace partition) = 24
+buildNumber (TaskPartition task) = 25
+buildNumber (Rank task) = 26
+buildNumber (Window task) = 27
+buildNumber (Start task) = 28
+buildNumber (Late task) = 29
+buildNumber (Response task) = 30
+
+abbrev pub buildPlace : BuildCause → ℕ
+buildPlace BuildShort = noPlace
+buildPlace BuildMismatch = noPlace
+buildPlace BuildLength = noPlace
+buildPlace BuildSpare = noPlace
+buildPlace (PartitionPlace partition) = partition
+buildPlace (TaskPartition task) = task
+buildPlace (Rank task) = task
+buildPlace (Window task) = task
+buildPlace (Start task) = task
+buildPlace (Late task) = task
+buildPlace (Response task) = task
+
+abbrev pub scriptNumber : ScriptCause → ℕ
+scriptNumber ScriptLength = 40
+scriptNumber (RecordSpare release) = 41
+scriptNumber (RecordTask release) = 42
+scriptNumber (RecordOrder release) = 43
+scriptNumber (JobLength release) = 44
+scriptNumber (ReleaseGap release) = 45
+scriptNumber FinishPlaces = 46
+
+abbrev pub scriptPlace : ScriptCause → ℕ
+scriptPlace ScriptLength = noPlace
+scriptPlace (RecordSpare release) = release
+scriptPlace (RecordTask release) = release
+scriptPlace (RecordOrder release) = release
+scriptPlace (JobLength release) = release
+scriptPlace (ReleaseGap release) = release
+scriptPlace FinishPlaces = noPlace
+
+abbrev pub causeNumber : Refusal → ℕ
+causeNumber (OfOrder cause) = orderNumber cause
+causeNumber (OfCall cause) = callNumber cause
+causeNumber (OfBuild cause) = buildNumber cause
+causeNumber (OfScript cause) = scriptNumber cause
+
+abbrev pub causePlace : Refusal → ℕ
+causePlace (OfOrder cause) = orderPlace cause
+causePlace (OfCall cause) = callPlace cause
+causePlace (OfBuild cause) = buildPlace cause
+causePlace (OfScript cause) = scriptPlace cause
 
 -- "0 means done: place 65,535, count of bytes or finish ticks written"; "Refusals have count 0"
-unfoldable pub numberOf : Answer → ℕ
-numberOf (Done count) = 0
-numberOf (Refused cause) = causeNumber cause
+unfoldable pub answerNumber : Answer → ℕ
+answerNumber (Done count) = 0
+answerNumber (Refused cause) = causeNumber cause
 
-unfoldable pub placeOf : Answer → ℕ
-placeOf (Done count) = noPlace
-placeOf (Refused cause) = causePlace cause
+unfoldable pub answerPlace : Answer → ℕ
+answerPlace (Done count) = noPlace
+answerPlace (Refused cause) = causePlace cause
 
-unfoldable pub countOf : Answer → ℕ
-countOf (Done count) = count
-countOf (Refused cause) = 0
+unfoldable pub answerCount : Answer → ℕ
+answerCount (Done count) = count
+answerCount (Refused cause) = 0
 
 -- what the output holds after an answer, where the front is what a done call writes
 unfoldable pub outputAfter : Answer → List ℕ → List ℕ → List ℕ
@@ -98,4 +123,4 @@ outputAfter (Refused cause) front output = output
 -- "On refusal the output is unchanged; on success only the counted front changes."
 pub record OnlyCountedFront (answer : Answer) (before after : List ℕ) : Type 0 where
   pub same-length : length after ≡ length before
-  pub rest-unchanged : drop (countOf answer) after ≡ drop (countOf answer) before
+  pub rest-unchanged : drop (answerCount answer) after ≡ drop (answerCount answer) before

@@ -1,8 +1,7 @@
--- The limits of document 01's table, the record lengths, and what is empty; each stated once.
-use Prim.Native.Nat.{ℕ, _+_, _*_}
-use mathlib.Core.List.{List}
+-- The limits of document 01's table, what is empty, and the parts of an order and of a build by number; each stated once.
+use Prim.Native.Nat.{ℕ}
 use lib.ListN.{replicate, getD}
-use Rattle.model.specs.Kinds.{Task, Order, Partition, Member, Build}
+use Rattle.model.specs.Kinds.{Task, Order, Partition, Member, Build, Release}
 
 -- "tasks n .. 32"
 abbrev pub mostTasks : ℕ
@@ -28,28 +27,20 @@ mostPartitions = 32
 abbrev pub mostRecords : ℕ
 mostRecords = 1024
 
--- "Length 3 + 9n."
-abbrev pub orderLength : ℕ → ℕ
-orderLength tasks = 3 + 9 * tasks
-
--- "Length 3 + 2p + 4n."
-abbrev pub buildLength : ℕ → ℕ → ℕ
-buildLength partitions tasks = 3 + 2 * partitions + 4 * tasks
-
--- "Script: per record tick 20, task 5, length 20, spare 3."
-abbrev pub scriptLength : ℕ → ℕ
-scriptLength records = 6 * records
-
 abbrev pub zeroTask : Task
 zeroTask = record { width = 0; period = 0; deadline = 0; run = 0 }
-
--- task i of a table
-abbrev pub taskOf : List Task → ℕ → Task
-taskOf table i = getD table i zeroTask
 
 -- "when it is refused all three are zero"
 abbrev pub emptyOrder : Order
 emptyOrder = record { processors = 0; tasks = 0; table = replicate mostTasks zeroTask }
+
+-- task i of an order
+abbrev pub taskOf : Order → ℕ → Task
+taskOf o i = getD (o .table) i zeroTask
+
+-- C as the test reads it: how long a job of the task takes at most
+unfoldable pub cost : Task → ℕ
+cost task = task .run
 
 abbrev pub zeroPartition : Partition
 zeroPartition = record { volume = 0; first = 0 }
@@ -59,3 +50,18 @@ zeroMember = record { partition = 0; rank = 0; response = 0 }
 
 abbrev pub emptyBuild : Build
 emptyBuild = record { processors = 0; tasks = 0; partitions = 0; places = replicate mostPartitions zeroPartition; members = replicate mostTasks zeroMember }
+
+-- partition p of a build
+abbrev pub placeOf : Build → ℕ → Partition
+placeOf b p = getD (b .places) p zeroPartition
+
+-- task i as a build records it
+abbrev pub memberOf : Build → ℕ → Member
+memberOf b i = getD (b .members) i zeroMember
+
+-- the partition that a build records for task i
+abbrev pub homeOf : Build → ℕ → ℕ
+homeOf b i = memberOf b i .partition
+
+abbrev pub zeroRelease : Release
+zeroRelease = record { tick = 0; task = 0; duration = 0 }

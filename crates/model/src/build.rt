@@ -2,7 +2,8 @@
 use crate::Order;
 ghost use mathlib.Core.Path.{_≡_};
 ghost use Prim.Native.Nat.{_≤_};
-ghost use Rattle.model.specs.Limits.{zeroPartition, zeroMember, emptyBuild, buildLength};
+ghost use Rattle.model.specs.Limits.{zeroPartition, zeroMember, emptyBuild};
+ghost use Rattle.model.specs.Layouts.{buildLength};
 
 // So many processors from the first on.
 pub struct Partition {
@@ -58,6 +59,11 @@ impl Build {
 
     pub const HEADER_BYTES: usize = 3;
 
+    // The longest build.
+    pub const MOST_BYTES: usize = Build::HEADER_BYTES
+        + Partition::BYTES * Build::MOST_PARTITIONS
+        + Member::BYTES * Order::MOST_TASKS;
+
     pub fn empty() -> Self
         ensures { λ r. ⌜ r ≡ emptyBuild ⌝ }
     {
@@ -75,21 +81,24 @@ impl Build {
     // How many bytes a build of so many partitions and tasks has.
     pub fn bytes(partitions: usize, tasks: usize) -> usize
         requires { ⌜ (partitions ≤ 127) × (tasks ≤ 63) ⌝ }
-        ensures { λ r. ⌜ r ≡ buildLength partitions tasks ⌝ }
+        ensures { λ r. ⌜ r ≡ buildLength 1 partitions tasks ⌝ }
     {
         Build::HEADER_BYTES + Partition::BYTES * partitions + Member::BYTES * tasks
     }
 }
 
-// A record of a script: at a tick, a job of a task, of a length.
+// A record of a script: at a tick, a job of a task, of a duration.
 pub struct Release {
     pub tick: u32,
     pub task: u32,
-    pub length: u32,
+    pub duration: u32,
 }
 
 impl Release {
     pub const BYTES: usize = 6;
 
     pub const MOST: usize = 1024;
+
+    // The longest script.
+    pub const MOST_BYTES: usize = Release::BYTES * Release::MOST;
 }

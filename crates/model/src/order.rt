@@ -1,18 +1,13 @@
 // Tasks and orders.
 use crate::Answer;
+use crate::OrderCause;
 use crate::Refusal;
+use crate::within;
 ghost use mathlib.Core.Path.{_≡_};
 ghost use Prim.Native.Nat.{_≤_};
-ghost use Rattle.laws.specs.Choice.{within as inRange};
-ghost use Rattle.model.specs.Limits.{zeroTask, emptyOrder, orderLength};
+ghost use Rattle.model.specs.Limits.{zeroTask, emptyOrder, cost};
+ghost use Rattle.model.specs.Layouts.{orderLength};
 ghost use Rattle.model.specs.Rules.{firstBroken, taskRules, rangeRules};
-
-// Both ends are in.
-pub fn within(least: u32, most: u32, x: u32) -> bool
-    ensures { λ r. ⌜ r ≡ inRange least most x ⌝ }
-{
-    if least <= x { x <= most } else { false }
-}
 
 // A rigid sporadic gang: width m, period T, deadline D, run time C.
 pub struct Task {
@@ -27,7 +22,7 @@ impl Task {
     pub const MOST_PERIOD: u32 = 1_000_000;
 
     // The response test looks no further, in ticks.
-    pub const HORIZON: u64 = 1_000_000;
+    pub const HORIZON: u32 = 1_000_000;
 
     // A task's record in an order.
     pub const BYTES: usize = 9;
@@ -43,21 +38,28 @@ impl Task {
         }
     }
 
+    // How long a job takes at most.
+    pub fn cost(self) -> u32
+        ensures { λ r. ⌜ r ≡ cost self ⌝ }
+    {
+        self.run
+    }
+
     // 7 to 10 of this task, in turn.
     pub fn judge(self, processors: u32, number: u16) -> Answer
         ensures { λ r. ⌜ r ≡ firstBroken 0 (taskRules processors self number) ⌝ }
     {
         if !within(1, processors, self.width) {
-            return Answer::Refused(Refusal::Width(number));
+            return Answer::Refused(Refusal::OfOrder(OrderCause::Width(number)));
         }
         if !within(1, Task::MOST_PERIOD, self.period) {
-            return Answer::Refused(Refusal::Period(number));
+            return Answer::Refused(Refusal::OfOrder(OrderCause::Period(number)));
         }
         if !within(1, self.period, self.deadline) {
-            return Answer::Refused(Refusal::Deadline(number));
+            return Answer::Refused(Refusal::OfOrder(OrderCause::Deadline(number)));
         }
-        if !within(1, self.deadline, self.run) {
-            return Answer::Refused(Refusal::RunTime(number));
+        if !within(1, self.deadline, self.cost()) {
+            return Answer::Refused(Refusal::OfOrder(OrderCause::RunTime(number)));
         }
         Answer::Done(0)
     }
@@ -77,6 +79,9 @@ impl Order {
 
     pub const HEADER_BYTES: usize = 3;
 
+    // The longest order.
+    pub const MOST_BYTES: usize = Order::HEADER_BYTES + Task::BYTES * Order::MOST_TASKS;
+
     pub fn empty() -> Self
         ensures { λ r. ⌜ r ≡ emptyOrder ⌝ }
     {
@@ -91,7 +96,7 @@ impl Order {
     // How many bytes an order of so many tasks has.
     pub fn bytes(tasks: usize) -> usize
         requires { ⌜ tasks ≤ 63 ⌝ }
-        ensures { λ r. ⌜ r ≡ orderLength tasks ⌝ }
+        ensures { λ r. ⌜ r ≡ orderLength 1 tasks ⌝ }
     {
         Order::HEADER_BYTES + Task::BYTES * tasks
     }
@@ -99,7 +104,7 @@ impl Order {
     // 7 to 10, task by task.
     pub fn judge(self) -> Answer
         requires { ⌜ self .tasks ≤ 32 ⌝ }
-        ensures { λ r. ⌜ r ≡ firstBroken 0 (rangeRules (self .processors) (self .table) (self .tasks)) ⌝ }
+        ensures { λ r. ⌜ r ≡ firstBroken 0 (rangeRules self) ⌝ }
     {
         let table = self.table;
         let tasks = self.tasks as usize;

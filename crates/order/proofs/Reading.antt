@@ -8,10 +8,11 @@ use Rattle.model.specs.declared.order.Order.{Order}
 use Rattle.model.specs.declared.answer.Answer.{Answer}
 use Rattle.model.specs.declared.answer.Answer.the-variants.{Done, Refused}
 use Rattle.model.specs.Limits.{mostTasks, zeroTask}
-use Rattle.model.specs.Rules.{firstBroken, allHold, WithinLimits}
-use Rattle.model.proofs.Rules.{done-hold, hold-front, hold-rest, range-at}
-use Rattle.order.specs.Order.{headerOf, taskAt, taskSpareAt, orderAt, headerRules, layoutRules, orderRules, readingOf, readOrder}
-use Rattle.order.proofs.Rules.{HeaderSound, layout-header, spare-at}
+use Rattle.model.specs.Rules.{firstBroken, rangeRules, WithinLimits}
+use Rattle.model.proofs.Rules.{AllPass, done-pass, pass-front, pass-rest, pass-kept}
+use Rattle.model.proofs.Ranges.{range-at, range-tells}
+use Rattle.order.specs.Order.{headerOf, taskAt, taskSpareAt, orderAt, headerRules, spareRules, layoutRules, orderRules, readingOf, readOrder}
+use Rattle.order.proofs.Rules.{HeaderSound, header-sound, spare-at}
 
 answer-of : (a : Answer) (o : Order) → readingOf a o .answer ≡ a
 answer-of (Done count) o = refl
@@ -22,24 +23,25 @@ unfolding readOrder
 read-answer s = answer-of (firstBroken 0 (orderRules s)) (orderAt s)
 
 module _ (s : List ℕ) {count : ℕ} (done : readOrder s .answer ≡ Done count) where
-  pub read-rules : allHold (orderRules s)
-  read-rules = done-hold 0 (orderRules s) (sym (read-answer s) ∙ done)
+  pub read-rules : AllPass (orderRules s)
+  read-rules = done-pass 0 (orderRules s) (sym (read-answer s) ∙ done)
 
   pub read-order : readOrder s .order ≡ orderAt s
   unfolding readOrder
   read-order = rw (sym (read-answer s) ∙ done)
 
-module _ (s : List ℕ) (rules : allHold (orderRules s)) where
-  layout-holds : allHold (layoutRules s)
+module _ (s : List ℕ) (rules : AllPass (orderRules s)) where
+  layout-passes : AllPass (layoutRules s)
   unfolding orderRules
-  layout-holds = hold-front (layoutRules s) _ rules
+  layout-passes = pass-front (layoutRules s) _ rules
 
   pub header-holds : HeaderSound (length s) (headerOf s)
-  header-holds = layout-header s layout-holds
+  unfolding layoutRules
+  header-holds = header-sound (length s) (headerOf s) (pass-front (headerRules (length s) (headerOf s)) (spareRules s (headerOf s .tasks)) layout-passes)
 
   pub spares-hold : (i : ℕ) → i < headerOf s .tasks → taskSpareAt s i ≡ 0
   unfolding layoutRules
-  spares-hold = spare-at s (headerOf s .tasks) (hold-rest (headerRules (length s) (headerOf s)) _ layout-holds)
+  spares-hold = spare-at s (headerOf s .tasks) (pass-rest (headerRules (length s) (headerOf s)) _ layout-passes)
 
   pub within-limits : WithinLimits (orderAt s)
   unfolding orderAt orderRules
@@ -47,7 +49,7 @@ module _ (s : List ℕ) (rules : allHold (orderRules s)) where
       record {
         processors = header-holds .processors;
         tasks = header-holds .tasks;
-        places = length-filled (taskAt s) zeroTask mostTasks (headerOf s .tasks) (header-holds .tasks .1);
-        each = range-at _ _ _ (hold-rest (layoutRules s) _ rules);
+        places = length-filled (taskAt s) _ mostTasks (headerOf s .tasks) (header-holds .tasks .1);
+        each = range-at (orderAt s) (pass-kept (rangeRules (orderAt s)) (range-tells (orderAt s)) (pass-rest (layoutRules s) _ rules));
         zero-past = λ i past. filled-past (taskAt s) zeroTask mostTasks (headerOf s .tasks) i past;
       }

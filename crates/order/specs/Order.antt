@@ -1,57 +1,67 @@
--- "Bits on the wire", the order: its fields, its bytes, the rules in the order of their numbers, and what a reading gives.
-use Prim.Native.Nat.{ℕ, _+_, _*_}
+-- "Bits on the wire", the order: its records, its bytes, the rules in the order of their numbers, and what a reading gives.
+use Prim.Native.Nat.{ℕ, _*_}
 use mathlib.Core.Path.{_≡_}
 use mathlib.Core.List.{List, [], _∷_, _++_}
-use lib.ListN.{length}
-use lib.Dec.{leb, eqb}
-use Rattle.laws.specs.Choice.{within}
+use lib.ListN.{length, getD}
 use Rattle.laws.specs.Joined.{joined, filled}
-use Rattle.bits.specs.Field.{field}
-use Rattle.bits.specs.Packed.{Slot, slot, bytesOf}
+use Rattle.bits.specs.Layout.{bytesIn, recordBytes, numbersAt}
 use Rattle.model.specs.declared.order.Task.{Task}
 use Rattle.model.specs.declared.order.Order.{Order}
 use Rattle.model.specs.declared.answer.Reading.{Reading}
 use Rattle.model.specs.declared.answer.Answer.{Answer}
 use Rattle.model.specs.declared.answer.Answer.the-variants.{Done, Refused}
 use Rattle.model.specs.declared.answer.Refusal.{Refusal}
-use Rattle.model.specs.declared.answer.Refusal.the-variants.{OrderShort, OrderVersion, Processors, Tasks, OrderLength, HeaderSpare, TaskSpare}
-use Rattle.model.specs.Limits.{mostTasks, mostProcessors, orderLength, zeroTask, taskOf, emptyOrder}
-use Rattle.model.specs.Rules.{Rule, rule, firstBroken, rangeRules}
+use Rattle.model.specs.declared.answer.Refusal.the-variants.{OfOrder}
+use Rattle.model.specs.declared.answer.OrderCause.the-variants.{OrderShort, OrderVersion, Processors, Tasks, OrderLength, HeaderSpare, TaskSpare}
+use Rattle.model.specs.Limits.{mostTasks, mostProcessors, zeroTask, taskOf, emptyOrder}
+use Rattle.model.specs.Layouts.{orderHeader, taskRecord, orderLength}
+use Rattle.model.specs.Rules.{Rule, rule, firstBroken, equal, atMost, inRange, rangeRules}
 use Rattle.order.specs.declared.Header.{Header}
 
--- "Order: version 4 (=1), M 7, n 6, spare 7"
-unfoldable pub headerOf : List ℕ → Header
-headerOf s = record { version = field s 0 4; processors = field s 4 7; tasks = field s 11 6; spare = field s 17 7 }
+-- a header as the numbers in its fields: "version 4 (=1), M 7, n 6, spare 7"; and the header that such numbers make
+abbrev pub headerNumbers : Header → List ℕ
+headerNumbers header = header .version ∷ header .processors ∷ header .tasks ∷ header .spare ∷ []
 
-abbrev pub headerSlots : ℕ → ℕ → List Slot
-headerSlots processors tasks = slot 4 1 ∷ slot 7 processors ∷ slot 6 tasks ∷ slot 7 0 ∷ []
+abbrev pub headerFrom : List ℕ → Header
+headerFrom numbers = record { version = getD numbers 0 0; processors = getD numbers 1 0; tasks = getD numbers 2 0; spare = getD numbers 3 0 }
+
+-- a task as the numbers in its record's fields, with its spare bits: "m 7, T 20, D 20, C 20, spare 5"; and the task that such numbers make
+abbrev pub taskNumbers : Task → (spare : ℕ) → List ℕ
+taskNumbers t spare = t .width ∷ t .period ∷ t .deadline ∷ t .run ∷ spare ∷ []
+
+abbrev pub taskFrom : List ℕ → Task
+taskFrom numbers = record { width = getD numbers 0 0; period = getD numbers 1 0; deadline = getD numbers 2 0; run = getD numbers 3 0 }
+
+-- the header that stands in the bytes
+unfoldable pub headerOf : List ℕ → Header
+headerOf s = headerFrom (numbersAt s 0 orderHeader)
 
 -- where the record of a task begins, in bits
-abbrev pub recordAt : ℕ → ℕ
-recordAt task = 8 * orderLength task
+abbrev pub taskStart : ℕ → ℕ
+taskStart i = 8 * orderLength 1 i
 
--- "then per task m 7, T 20, D 20, C 20, spare 5"
-unfoldable pub taskAt : List ℕ → ℕ → Task
-taskAt s i =
-    record {
-      width = field s (recordAt i) 7;
-      period = field s (recordAt i + 7) 20;
-      deadline = field s (recordAt i + 7 + 20) 20;
-      run = field s (recordAt i + 7 + 20 + 20) 20;
-    }
+-- the numbers in the record of a task
+unfoldable pub taskFields : List ℕ → ℕ → List ℕ
+taskFields s i = numbersAt s (taskStart i) (taskRecord 1)
 
-unfoldable pub taskSpareAt : List ℕ → ℕ → ℕ
-taskSpareAt s i = field s (recordAt i + 67) 5
+abbrev pub taskAt : List ℕ → ℕ → Task
+taskAt s i = taskFrom (taskFields s i)
 
-abbrev pub taskSlots : Task → List Slot
-taskSlots t = slot 7 (t .width) ∷ slot 20 (t .period) ∷ slot 20 (t .deadline) ∷ slot 20 (t .run) ∷ slot 5 0 ∷ []
+abbrev pub taskSpareAt : List ℕ → ℕ → ℕ
+taskSpareAt s i = getD (taskFields s i) 4 0
 
--- the bytes of an order
-unfoldable pub recordsOf : List Task → ℕ → List ℕ
-recordsOf table tasks = joined (λ i. bytesOf (taskSlots (taskOf table i))) tasks
+-- "Spare bits are zero.": the bytes of an order
+abbrev pub headerFor : (processors tasks : ℕ) → Header
+headerFor processors tasks = record { version = 1; processors = processors; tasks = tasks; spare = 0 }
+
+abbrev pub taskBytes : Task → List ℕ
+taskBytes t = recordBytes (taskRecord 1) (taskNumbers t 0)
+
+unfoldable pub tableBytes : Order → (tasks : ℕ) → List ℕ
+tableBytes o tasks = joined (λ i. taskBytes (taskOf o i)) tasks
 
 unfoldable pub orderBytes : Order → List ℕ
-orderBytes o = bytesOf (headerSlots (o .processors) (o .tasks)) ++ recordsOf (o .table) (o .tasks)
+orderBytes o = recordBytes orderHeader (headerNumbers (headerFor (o .processors) (o .tasks))) ++ tableBytes o (o .tasks)
 
 -- the order that stands in the bytes: "M, n and the table, zero past its n tasks"
 unfoldable pub orderAt : List ℕ → Order
@@ -65,17 +75,17 @@ orderAt s =
 -- 1 to 5, and 6 of the header
 unfoldable pub headerRules : ℕ → Header → List Rule
 headerRules size header =
-    rule (leb 3 size) OrderShort
-    ∷ rule (eqb (header .version) 1) OrderVersion
-    ∷ rule (within 1 mostProcessors (header .processors)) Processors
-    ∷ rule (within 1 mostTasks (header .tasks)) Tasks
-    ∷ rule (eqb size (orderLength (header .tasks))) OrderLength
-    ∷ rule (eqb (header .spare) 0) HeaderSpare
+    rule (atMost (bytesIn orderHeader) size) (OfOrder OrderShort)
+    ∷ rule (equal (header .version) 1) (OfOrder OrderVersion)
+    ∷ rule (inRange 1 mostProcessors (header .processors)) (OfOrder Processors)
+    ∷ rule (inRange 1 mostTasks (header .tasks)) (OfOrder Tasks)
+    ∷ rule (equal size (orderLength 1 (header .tasks))) (OfOrder OrderLength)
+    ∷ rule (equal (header .spare) 0) (OfOrder HeaderSpare)
     ∷ []
 
 -- "6 over the whole order, header first and then the lowest task"
-unfoldable pub spareRules : List ℕ → ℕ → List Rule
-spareRules s tasks = joined (λ i. rule (eqb (taskSpareAt s i) 0) (TaskSpare i) ∷ []) tasks
+unfoldable pub spareRules : List ℕ → (tasks : ℕ) → List Rule
+spareRules s tasks = joined (λ i. rule (equal (taskSpareAt s i) 0) (OfOrder (TaskSpare i)) ∷ []) tasks
 
 -- "1 to 6 in turn"
 unfoldable pub layoutRules : List ℕ → List Rule
@@ -83,7 +93,7 @@ layoutRules s = headerRules (length s) (headerOf s) ++ spareRules s (headerOf s 
 
 -- "then task by task 7 to 10"
 unfoldable pub orderRules : List ℕ → List Rule
-orderRules s = layoutRules s ++ rangeRules (orderAt s .processors) (orderAt s .table) (orderAt s .tasks)
+orderRules s = layoutRules s ++ rangeRules (orderAt s)
 
 -- "An order read gives M, n and the table, zero past its n tasks; when it is refused all three are zero."
 abbrev pub refusedReading : Refusal → Reading

@@ -4,15 +4,15 @@ use mathlib.Core.Path.{_≡_}
 use mathlib.Core.List.{List}
 use Rattle.laws.specs.Joined.{filled}
 use Rattle.bits.specs.Field.{field}
+use Rattle.bits.specs.Layout.{bitsIn}
 use Rattle.bits.specs.declared.Taken.{Taken}
-use Rattle.bits.specs.Packed.{widthOf}
-use Rattle.model.specs.declared.order.Task.{Task}
 use Rattle.model.specs.declared.answer.Answer.the-variants.{Done}
 use Rattle.model.specs.Limits.{mostTasks, zeroTask}
+use Rattle.model.specs.Layouts.{orderHeader, taskRecord}
 use Rattle.model.specs.Rules.{firstBroken}
 use Rattle.order.specs.declared.TaskTaken.{TaskTaken}
 use Rattle.order.specs.declared.TableTaken.{TableTaken}
-use Rattle.order.specs.Order.{headerSlots, taskSlots, recordAt, taskAt, taskSpareAt, spareRules}
+use Rattle.order.specs.Order.{taskStart, taskAt, taskSpareAt, spareRules}
 
 -- a field, and then the next one begins
 abbrev pub TakesField : List ℕ → ℕ → ℕ → Taken → Type 0
@@ -20,7 +20,7 @@ TakesField s at width taken = (taken .value ≡ field s at width) × (taken .nex
 
 -- where a task's record begins: the task, its spare bits, and then the next task's record begins
 abbrev pub TakesTask : List ℕ → ℕ → TaskTaken → Type 0
-TakesTask s at taken = (i : ℕ) → at ≡ recordAt i → (taken .task ≡ taskAt s i) × (taken .spare ≡ taskSpareAt s i) × (taken .next ≡ recordAt (i + 1))
+TakesTask s at taken = (i : ℕ) → at ≡ taskStart i → (taken .task ≡ taskAt s i) × (taken .spare ≡ taskSpareAt s i) × (taken .next ≡ taskStart (i + 1))
 
 -- 6 of the tasks, and the table where it holds
 abbrev pub TakesTable : List ℕ → ℕ → TableTaken → Type 0
@@ -30,4 +30,4 @@ TakesTable s tasks taken =
 
 -- the first task's record begins where the header ends, and each next one where the one before ends
 abbrev pub FrontToBack : Type 0
-FrontToBack = (processors tasks i : ℕ) (task : Task) → (recordAt 0 ≡ widthOf (headerSlots processors tasks)) × (recordAt (i + 1) ≡ recordAt i + widthOf (taskSlots task))
+FrontToBack = (i : ℕ) → (taskStart 0 ≡ bitsIn orderHeader) × (taskStart (i + 1) ≡ taskStart i + bitsIn (taskRecord 1))

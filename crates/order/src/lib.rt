@@ -3,14 +3,16 @@ mod reader;
 
 use model::Answer;
 use model::Order;
+use model::OrderCause;
 use model::Reading;
 use model::Refusal;
 use model::Task;
 use reader::take_field;
 ghost use mathlib.Core.Path.{_≡_};
-ghost use Prim.Native.Nat.{_≤_, _<_};
+ghost use Prim.Native.Nat.{_≤_, _<_, _^_};
+ghost use Rattle.model.specs.Limits.{mostTasks};
 ghost use Rattle.model.specs.Rules.{firstBroken};
-ghost use Rattle.order.specs.Order.{recordAt, headerOf, headerRules, refusedReading, Reads};
+ghost use Rattle.order.specs.Order.{taskStart, headerOf, headerRules, refusedReading, Reads};
 ghost use Rattle.order.specs.Taken.{TakesTask, TakesTable};
 
 // The header's fields.
@@ -52,7 +54,7 @@ pub fn read_header(order: &[u8]) -> Header
 
 // The record of a task, front to back from a bit on.
 fn read_task(order: &[u8], at: usize) -> TaskTaken
-    requires { ⌜ at ≤ recordAt 32 ⌝ }
+    requires { ⌜ at ≤ taskStart mostTasks ⌝ }
     ensures { λ r. ⌜ TakesTask (now (order .entry)) at r ⌝ }
 {
     let width = take_field(order, at, 7);
@@ -74,7 +76,7 @@ fn read_task(order: &[u8], at: usize) -> TaskTaken
 
 // The records of so many tasks, front to back: 6 of the tasks, the lowest first, and the table, zero past them.
 fn read_table(order: &[u8], tasks: usize) -> TableTaken
-    requires { ⌜ tasks ≤ 32 ⌝ }
+    requires { ⌜ tasks ≤ mostTasks ⌝ }
     ensures { λ r. ⌜ TakesTable (now (order .entry)) tasks r ⌝ }
 {
     let mut table = [Task::zero(); Order::MOST_TASKS];
@@ -84,7 +86,7 @@ fn read_table(order: &[u8], tasks: usize) -> TableTaken
         let taken = read_task(order, at);
         if taken.spare != 0 {
             return TableTaken {
-                spares: Answer::Refused(Refusal::TaskSpare(i as u16)),
+                spares: Answer::Refused(Refusal::OfOrder(OrderCause::TaskSpare(i as u16))),
                 table,
             };
         }
@@ -101,26 +103,26 @@ fn read_table(order: &[u8], tasks: usize) -> TableTaken
 
 // 1 to 5, and 6 of the header.
 fn judge_header(size: usize, header: Header) -> Answer
-    requires { ⌜ header .tasks < 64 ⌝ }
+    requires { ⌜ header .tasks < 2 ^ 6 ⌝ }
     ensures { λ r. ⌜ r ≡ firstBroken 0 (headerRules size header) ⌝ }
 {
     if size < Order::HEADER_BYTES {
-        return Answer::Refused(Refusal::OrderShort);
+        return Answer::Refused(Refusal::OfOrder(OrderCause::OrderShort));
     }
     if header.version != 1 {
-        return Answer::Refused(Refusal::OrderVersion);
+        return Answer::Refused(Refusal::OfOrder(OrderCause::OrderVersion));
     }
     if !model::within(1, Order::MOST_PROCESSORS, header.processors) {
-        return Answer::Refused(Refusal::Processors);
+        return Answer::Refused(Refusal::OfOrder(OrderCause::Processors));
     }
     if !model::within(1, Order::MOST_TASKS as u32, header.tasks) {
-        return Answer::Refused(Refusal::Tasks);
+        return Answer::Refused(Refusal::OfOrder(OrderCause::Tasks));
     }
     if size != Order::bytes(header.tasks as usize) {
-        return Answer::Refused(Refusal::OrderLength);
+        return Answer::Refused(Refusal::OfOrder(OrderCause::OrderLength));
     }
     if header.spare != 0 {
-        return Answer::Refused(Refusal::HeaderSpare);
+        return Answer::Refused(Refusal::OfOrder(OrderCause::HeaderSpare));
     }
     Answer::Done(0)
 }

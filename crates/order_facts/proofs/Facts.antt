@@ -1,7 +1,8 @@
 -- The claims of specs/Claims.antt, proved.
 use mathlib.Core.Path.{_≡_, sym, ap, _∙_, subst}
 use mathlib.Core.List.{List, _++_}
-use Prim.Native.Nat.{ℕ, _≤_}
+use Prim.Native.Nat.{ℕ, _≤_, min}
+use native.Mathlib.Omega.{arith}
 use lib.ListN.{length, take, drop}
 use lib.Seq.{take-at}
 use Rattle.laws.proofs.Filled.{length-filled, filled-past}
@@ -10,26 +11,36 @@ use Rattle.model.specs.declared.answer.Reading.{Reading}
 use Rattle.model.specs.declared.answer.Answer.{Answer}
 use Rattle.model.specs.declared.answer.Answer.the-variants.{Done}
 use Rattle.model.specs.Answer.{outputAfter}
-use Rattle.model.specs.Limits.{mostTasks, orderLength, zeroTask}
-use Rattle.model.specs.Rules.{Rule, allHold, rangeRules, roomRules, WithinLimits}
+use Rattle.model.specs.Limits.{mostTasks, zeroTask}
+use Rattle.model.specs.Layouts.{orderLength}
+use Rattle.model.specs.Rules.{AllKept, OneRightAnswer, rangeRules, roomRules, WithinLimits}
 use Rattle.model.proofs.Output.{after-done, only-counted-front}
-use Rattle.model.proofs.Rules.{done-hold, done-count, refused-broken, broken-refused, hold-front, hold-rest, range-at, room-fits}
+use Rattle.model.proofs.Rules.{done-pass, done-count, pass-kept, kept-front, kept-rest, one-right-answer}
+use Rattle.model.proofs.Ranges.{range-at}
 use Rattle.order.specs.Order.{orderBytes, orderAt, orderRules, readOrder}
-use Rattle.order_out.specs.Write.{columnTask, columnOrder, columnRules, writeRules, writeAnswer, Writes}
-use Rattle.order_out.proofs.Bytes.{length-order}
-use Rattle.order_out.proofs.Rules.{ColumnsPassed, columns-passed}
-use Rattle.order_facts.specs.Claims.{ReadingGivesBack, BytesReadBack, AcceptedExactly, AcceptedWithinLimits, ReadRefusedForItsCause, WriteRefusedForItsCause, RefusedReadsZero, WritesOnlyCountedFront, ReadingUnique, WritingUnique}
-use Rattle.order_facts.proofs.Back.{bytes-read-back}
+use Rattle.order.proofs.Rules.{order-tells}
 use Rattle.order.proofs.Reading.{read-answer, read-rules, read-order, within-limits}
+use Rattle.order_out.specs.Write.{writtenRules, TaskColumns, columnTask, columnOrder, writeRules, writeAnswer, Writes}
+use Rattle.order_out.proofs.Bytes.{length-order}
+use Rattle.order_out.proofs.Rules.{written-tells, write-tells}
+use Rattle.order_facts.specs.Claims.{ReadingGivesBack, BytesReadBack, AcceptedExactly, AcceptedWithinLimits, OneReading, OneWriting, OneWritten, RefusedReadsZero, WritesOnlyCountedFront, ReadingUnique, WritingUnique, WrittenUnique}
+use Rattle.order_facts.proofs.Back.{bytes-read-back}
 use Rattle.order_facts.proofs.Forth.{bytes-are}
 
 pub reading-unique : ReadingUnique
 reading-unique s one other e f = e ∙ sym f
 
+-- an answer leaves one content
+one-content : (o : Order) (output : List ℕ) {one other : Answer} {after after′ : List ℕ} → one ≡ other → after ≡ outputAfter one (orderBytes o) output → after′ ≡ outputAfter other (orderBytes o) output → after ≡ after′
+one-content o output same w v = w ∙ ap (λ (a : Answer). outputAfter a (orderBytes o) output) same ∙ sym v
+
 pub writing-unique : WritingUnique
-writing-unique processors widths periods deadlines runs output one other after after′ w v =
-    let same : one ≡ other = w .answered ∙ sym (v .answered) in
-    (same, w .written ∙ ap (λ (a : Answer). outputAfter a (orderBytes (columnOrder processors widths periods deadlines runs)) output) same ∙ sym (v .written))
+writing-unique processors c output one other after after′ w v =
+    let same : one ≡ other = w .answered ∙ sym (v .answered) in (same, one-content (columnOrder processors c) output same (w .written) (v .written))
+
+pub written-unique : WrittenUnique
+written-unique o output one other after after′ w v =
+    let same : one ≡ other = w .answered ∙ sym (v .answered) in (same, one-content o output same (w .written) (v .written))
 
 pub accepted-within-limits : AcceptedWithinLimits
 accepted-within-limits s e = rw (read-order s e) (within-limits s (read-rules s e))
@@ -40,86 +51,71 @@ accepted-exactly s all = (
   (λ r. ap (λ (x : List ℕ). readOrder x .answer) (r .2) ∙ ap (λ (x : Reading). x .answer) (bytes-read-back (r .0) (r .1))),
 )
 
-pub read-refused-for-its-cause : ReadRefusedForItsCause
-read-refused-for-its-cause s refusal =
-    ((λ e. refused-broken 0 (orderRules s) refusal (sym (read-answer s) ∙ e)), (λ d. read-answer s ∙ broken-refused 0 (orderRules s) refusal d))
+pub one-reading : OneReading
+unfolding OneRightAnswer
+one-reading s answer = rw (read-answer s) (one-right-answer 0 (orderRules s) (order-tells s) answer)
 
-pub write-refused-for-its-cause : WriteRefusedForItsCause
-unfolding writeAnswer
-write-refused-for-its-cause processors widths periods deadlines runs output answer after refusal w =
-    ((λ e. refused-broken _ _ refusal (sym (w .answered) ∙ e)), (λ d. w .answered ∙ broken-refused _ _ refusal d))
+pub one-writing : OneWriting
+unfolding OneRightAnswer writeAnswer
+one-writing processors c room answer = one-right-answer _ (writeRules processors c room) (write-tells processors c room) answer
+
+pub one-written : OneWritten
+unfolding OneRightAnswer
+one-written o room answer = one-right-answer _ (writtenRules o room) (written-tells o room) answer
 
 pub refused-reads-zero : RefusedReadsZero
 unfolding readOrder
 refused-reads-zero s refusal e = rw (sym (read-answer s) ∙ e)
 
 -- an accepted write: every rule holds
-module _ (processors : ℕ) (widths periods deadlines runs output : List ℕ) (answer : Answer) (after : List ℕ) (count : ℕ)
-    (w : Writes processors widths periods deadlines runs output answer after) (e : answer ≡ Done count) where
+module _ (processors : ℕ) (c : TaskColumns) (output : List ℕ) (answer : Answer) (after : List ℕ) (count : ℕ) (w : Writes processors c output answer after) (e : answer ≡ Done count) where
   abbrev order : Order
-  order = columnOrder processors widths periods deadlines runs
+  order = columnOrder processors c
 
-  rules : allHold (writeRules processors widths periods deadlines runs (length output))
-  unfolding writeAnswer
-  rules = done-hold _ _ (sym (w .answered) ∙ e)
+  abbrev size : ℕ
+  size = orderLength 1 (order .tasks)
 
-  abbrev column-part : List Rule
-  column-part = columnRules processors (length widths) (length periods) (length deadlines) (length runs)
-
-  abbrev range-part : List Rule
-  range-part = rangeRules processors (order .table) (length widths)
-
-  abbrev room-part : List Rule
-  room-part = roomRules (orderLength (length widths)) (length output)
-
-  columns : ColumnsPassed processors widths periods deadlines runs
-  unfolding writeRules
-  columns = columns-passed processors widths periods deadlines runs (hold-front column-part (range-part ++ room-part) rules)
-
-  after-columns : allHold (range-part ++ room-part)
-  unfolding writeRules
-  after-columns = hold-rest column-part (range-part ++ room-part) rules
+  written-kept : AllKept (writtenRules order (length output))
+  unfolding writeAnswer writeRules AllKept
+  written-kept = pass-kept _ (write-tells processors c (length output)) (done-pass _ _ (sym (w .answered) ∙ e)) .1
 
   limits : WithinLimits order
-  unfolding columnOrder
+  unfolding writtenRules AllKept columnOrder
   limits =
-      let f = columnTask widths periods deadlines runs in
+      let rows = min (length (c .widths)) mostTasks in
+      let tasks = written-kept .1 .0 in
       record {
-        processors = columns .processors-in;
-        tasks = columns .tasks-in;
-        places = length-filled f zeroTask mostTasks (length widths) (columns .tasks-in .1);
-        each = range-at processors (order .table) (length widths) (hold-front range-part room-part after-columns);
-        zero-past = λ i past. filled-past f zeroTask mostTasks (length widths) i past;
+        processors = written-kept .0;
+        tasks = tasks;
+        places = length-filled (columnTask c) zeroTask mostTasks rows (omega arith);
+        each = range-at order (kept-front (rangeRules order) _ (written-kept .1 .1));
+        zero-past = λ i past. filled-past (columnTask c) zeroTask mostTasks rows i (omega arith);
       }
 
-  counted : count ≡ orderLength (length widths)
+  counted : count ≡ size
   unfolding writeAnswer
   counted = done-count _ _ (sym (w .answered) ∙ e)
 
-  room : orderLength (length widths) ≤ length output
-  room = room-fits _ _ (hold-rest range-part room-part after-columns)
+  room : size ≤ length output
+  unfolding writtenRules roomRules AllKept
+  room = kept-rest (rangeRules order) (roomRules size (length output)) (written-kept .1 .1) .0
 
-  size : length (orderBytes order) ≡ orderLength (length widths)
-  unfolding columnOrder
-  size = length-order order
-
-  reads-back : readOrder (take count after) ≡ record { answer = Done 0; order = order }
-  reads-back =
+  gives-back : readOrder (take count after) ≡ record { answer = Done 0; order = order }
+  gives-back =
       let front : after ≡ orderBytes order ++ drop count output = w .written ∙ ap (λ (a : Answer). outputAfter a (orderBytes order) output) e ∙ after-done count (orderBytes order) output in
-      rw (front, take-at (orderBytes order) (drop count output) count (size ∙ sym counted)) (bytes-read-back order limits)
+      rw (front, take-at (orderBytes order) (drop count output) count (length-order order ∙ sym counted)) (bytes-read-back order limits)
 
 pub bytes-back : BytesReadBack
 bytes-back = bytes-read-back
 
 pub reading-gives-back : ReadingGivesBack
-reading-gives-back = reads-back
+reading-gives-back = gives-back
 
 pub writes-only-counted-front : WritesOnlyCountedFront
-writes-only-counted-front processors widths periods deadlines runs output answer after w =
+writes-only-counted-front processors c output answer after w =
     rw (w .written) (
-    only-counted-front answer (orderBytes (columnOrder processors widths periods deadlines runs)) output
+    only-counted-front answer (orderBytes (columnOrder processors c)) output
     (λ count e.
-    let sized = size processors widths periods deadlines runs output answer after count w e in
-    let count-is = counted processors widths periods deadlines runs output answer after count w e in
-    (sized ∙ sym count-is, subst (_≤ length output) (sym count-is) (room processors widths periods deadlines runs output answer after count w e)))
+    let count-is = counted processors c output answer after count w e in
+    (length-order (columnOrder processors c) ∙ sym count-is, subst (_≤ length output) (sym count-is) (room processors c output answer after count w e)))
     )

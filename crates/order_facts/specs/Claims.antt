@@ -3,8 +3,8 @@ use Prim.Native.Nat.{ℕ}
 use mathlib.Core.Path.{_≡_}
 use mathlib.Core.List.{List}
 use mathlib.Core.Logic.{_↔_}
-use lib.ListN.{length, take}
-use Rattle.bits.specs.Packed.{Bytes}
+use lib.ListN.{take}
+use Rattle.bits.specs.Layout.{Bytes}
 use Rattle.model.specs.declared.order.Order.{Order}
 use Rattle.model.specs.declared.answer.Reading.{Reading}
 use Rattle.model.specs.declared.answer.Answer.{Answer}
@@ -12,15 +12,16 @@ use Rattle.model.specs.declared.answer.Answer.the-variants.{Done, Refused}
 use Rattle.model.specs.declared.answer.Refusal.{Refusal}
 use Rattle.model.specs.Answer.{OnlyCountedFront}
 use Rattle.model.specs.Limits.{emptyOrder}
-use Rattle.model.specs.Rules.{BrokenFirst, WithinLimits}
+use Rattle.model.specs.Layouts.{orderLength}
+use Rattle.model.specs.Rules.{firstBroken, RightAnswer, WithinLimits}
 use Rattle.order.specs.Order.{orderBytes, orderRules, readOrder, Reads}
-use Rattle.order_out.specs.Write.{columnOrder, writeRules, Writes}
+use Rattle.order_out.specs.Write.{TaskColumns, columnOrder, writeRules, writeAnswer, Writes, writtenRules, WritesOrder}
 
 -- "reading gives back what was written": M, n and the table
 abbrev pub ReadingGivesBack : Type 0
-ReadingGivesBack = (processors : ℕ) (widths periods deadlines runs output : List ℕ) (answer : Answer) (after : List ℕ) (count : ℕ)
-    → Writes processors widths periods deadlines runs output answer after → answer ≡ Done count
-    → readOrder (take count after) ≡ record { answer = Done 0; order = columnOrder processors widths periods deadlines runs }
+ReadingGivesBack = (processors : ℕ) (c : TaskColumns) (output : List ℕ) (answer : Answer) (after : List ℕ) (count : ℕ)
+    → Writes processors c output answer after → answer ≡ Done count
+    → readOrder (take count after) ≡ record { answer = Done 0; order = columnOrder processors c }
 
 -- the bytes of an order within the limits read as that order
 abbrev pub BytesReadBack : Type 0
@@ -34,14 +35,18 @@ AcceptedExactly = (s : List ℕ) → Bytes s → (readOrder s .answer ≡ Done 0
 abbrev pub AcceptedWithinLimits : Type 0
 AcceptedWithinLimits = (s : List ℕ) → readOrder s .answer ≡ Done 0 → WithinLimits (readOrder s .order)
 
--- "for that cause only": its own rule is broken at its place, and every earlier rule holds
-abbrev pub ReadRefusedForItsCause : Type 0
-ReadRefusedForItsCause = (s : List ℕ) (refusal : Refusal) → (readOrder s .answer ≡ Refused refusal) ↔ BrokenFirst (orderRules s) refusal
+-- "for that cause only": one answer is right, by the rule that is broken first, and it is the reader's
+abbrev pub OneReading : Type 0
+OneReading = (s : List ℕ) (answer : Answer) → (answer ≡ readOrder s .answer) ↔ RightAnswer 0 (orderRules s) answer
 
-abbrev pub WriteRefusedForItsCause : Type 0
-WriteRefusedForItsCause = (processors : ℕ) (widths periods deadlines runs output : List ℕ) (answer : Answer) (after : List ℕ) (refusal : Refusal)
-    → Writes processors widths periods deadlines runs output answer after
-    → (answer ≡ Refused refusal) ↔ BrokenFirst (writeRules processors widths periods deadlines runs (length output)) refusal
+-- the same of the writer, and of an order written
+abbrev pub OneWriting : Type 0
+OneWriting = (processors : ℕ) (c : TaskColumns) (room : ℕ) (answer : Answer)
+    → (answer ≡ writeAnswer processors c room) ↔ RightAnswer (orderLength 1 (columnOrder processors c .tasks)) (writeRules processors c room) answer
+
+abbrev pub OneWritten : Type 0
+OneWritten = (o : Order) (room : ℕ) (answer : Answer)
+    → (answer ≡ firstBroken (orderLength 1 (o .tasks)) (writtenRules o room)) ↔ RightAnswer (orderLength 1 (o .tasks)) (writtenRules o room) answer
 
 -- "when it is refused all three are zero"
 abbrev pub RefusedReadsZero : Type 0
@@ -49,14 +54,17 @@ RefusedReadsZero = (s : List ℕ) (refusal : Refusal) → readOrder s .answer �
 
 -- "On refusal the output is unchanged; on success only the counted front changes."
 abbrev pub WritesOnlyCountedFront : Type 0
-WritesOnlyCountedFront = (processors : ℕ) (widths periods deadlines runs output : List ℕ) (answer : Answer) (after : List ℕ)
-    → Writes processors widths periods deadlines runs output answer after → OnlyCountedFront answer output after
+WritesOnlyCountedFront = (processors : ℕ) (c : TaskColumns) (output : List ℕ) (answer : Answer) (after : List ℕ)
+    → Writes processors c output answer after → OnlyCountedFront answer output after
 
 -- one possible answer and content for every input
 abbrev pub ReadingUnique : Type 0
 ReadingUnique = (s : List ℕ) (one other : Reading) → Reads s one → Reads s other → one ≡ other
 
 abbrev pub WritingUnique : Type 0
-WritingUnique = (processors : ℕ) (widths periods deadlines runs output : List ℕ) (one other : Answer) (after after′ : List ℕ)
-    → Writes processors widths periods deadlines runs output one after → Writes processors widths periods deadlines runs output other after′
-    → (one ≡ other) × (after ≡ after′)
+WritingUnique = (processors : ℕ) (c : TaskColumns) (output : List ℕ) (one other : Answer) (after after′ : List ℕ)
+    → Writes processors c output one after → Writes processors c output other after′ → (one ≡ other) × (after ≡ after′)
+
+abbrev pub WrittenUnique : Type 0
+WrittenUnique = (o : Order) (output : List ℕ) (one other : Answer) (after after′ : List ℕ)
+    → WritesOrder o output one after → WritesOrder o output other after′ → (one ≡ other) × (after ≡ after′)

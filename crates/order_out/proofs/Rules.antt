@@ -1,82 +1,74 @@
--- Laws of the writer's rules: what passed columns say, and the parts in turn.
-use mathlib.Core.Path.{_≡_, sym, _∙_}
-use mathlib.Core.List.{List}
+-- Laws of the writer's rules: tasks in range fit their fields, the parts in turn, and that each test tells.
+use mathlib.Core.Path.{_≡_, sym}
+use mathlib.Core.Bool.{true}
 use Prim.Native.Nat.{ℕ, _≤_}
 use native.Mathlib.Omega.{arith}
 use lib.ListN.{length}
 use lib.Dec.{eqb}
-use borrow.Author.Tests.{eqb-true}
-use Rattle.laws.proofs.Choice.{both, within-true}
+use borrow.Author.Tests.{eq-eqb, eqb-true}
+use Rattle.laws.specs.Choice.{within}
+use Rattle.laws.proofs.Choice.{both}
+use Rattle.bits.specs.Layout.{FitIn}
 use Rattle.model.specs.declared.order.Task.{Task}
 use Rattle.model.specs.declared.order.Order.{Order}
 use Rattle.model.specs.declared.answer.Answer.the-variants.{Done, Refused}
 use Rattle.model.specs.declared.answer.Refusal.{Refusal}
-use Rattle.model.specs.Limits.{mostTasks, mostProcessors, orderLength, taskOf}
-use Rattle.model.specs.Rules.{Rule, firstBroken, allHold, rangeRules, roomRules, TaskInRange}
-use Rattle.model.proofs.Rules.{done-hold, pass, stop, range-at, any-count}
-use Rattle.order_out.specs.Write.{columnOrder, columnRules, writeRules, writeAnswer, TaskFits, OrderFits, SameLengths}
-
--- what passed columns say
-pub record ColumnsPassed (processors : ℕ) (widths periods deadlines runs : List ℕ) : Type 0 where
-  pub same : SameLengths widths periods deadlines runs
-  pub processors-in : (1 ≤ processors) × (processors ≤ mostProcessors)
-  pub tasks-in : (1 ≤ length widths) × (length widths ≤ mostTasks)
-
-pub columns-passed : (processors : ℕ) (widths periods deadlines runs : List ℕ) → allHold (columnRules processors (length widths) (length periods) (length deadlines) (length runs)) →
-    ColumnsPassed processors widths periods deadlines runs
-unfolding columnRules allHold
-columns-passed processors widths periods deadlines runs all =
-    let one = both (eqb (length widths) (length periods)) _ (all .0) in
-    let two = both (eqb (length widths) (length deadlines)) _ (one .1) in
-    record {
-      same = record { periods-same = sym (eqb-true _ _ (one .0)); deadlines-same = sym (eqb-true _ _ (two .0)); runs-same = sym (eqb-true _ _ (two .1)) };
-      processors-in = within-true _ _ _ (all .1 .0);
-      tasks-in = within-true _ _ _ (all .1 .1 .0);
-    }
+use Rattle.model.specs.Limits.{mostTasks, mostProcessors, taskOf, cost}
+use Rattle.model.specs.Layouts.{taskRecord, orderLength}
+use Rattle.model.specs.Rules.{firstBroken, TestsTell, Tells, rangeRules, roomRules, TaskInRange}
+use Rattle.model.proofs.Rules.{AllPass, done-pass, pass-kept, pass-on, stop, any-count, in-range-tells, tell-append, room-tells}
+use Rattle.model.proofs.Ranges.{range-at, range-tells}
+use Rattle.order.specs.Order.{taskNumbers}
+use Rattle.order_out.specs.Write.{writtenRules, TaskColumns, oneLength, columnOrder, writeRules, writeAnswer, OrderFits}
 
 -- tasks in range fit their fields
-pub range-fits : (processors : ℕ) (t : Task) → processors ≤ mostProcessors → TaskInRange processors t → TaskFits t
+pub range-fits : (processors : ℕ) (t : Task) → processors ≤ mostProcessors → TaskInRange processors t → FitIn (taskRecord 1) (taskNumbers t 0)
+unfolding cost
 range-fits processors t few r =
-    record {
-      width = omega (arith, r .width);
-      period = omega (arith, r .period);
-      deadline = omega (arith, r .period, r .deadline);
-      run = omega (arith, r .period, r .deadline, r .run);
-    }
+    let period = r .period-in in
+    let deadline = r .deadline-in in
+    (omega (arith, r .width-in), (omega arith, (omega arith, (omega (arith, r .cost-in), (omega arith, tt)))))
 
-pub order-fits : (o : Order) → o .processors ≤ mostProcessors → o .tasks ≤ mostTasks → allHold (rangeRules (o .processors) (o .table) (o .tasks)) → OrderFits o
+pub order-fits : (o : Order) → o .processors ≤ mostProcessors → o .tasks ≤ mostTasks → AllPass (rangeRules o) → OrderFits o
 order-fits o few tasks all =
     record {
       processors = omega arith;
       tasks = tasks;
-      each = λ i below. range-fits (o .processors) (taskOf (o .table) i) few (range-at (o .processors) (o .table) (o .tasks) all i below);
+      each = λ i below. range-fits (o .processors) (taskOf o i) few (range-at o (pass-kept (rangeRules o) (range-tells o) all) i below);
     }
 
--- the writer's branches
-module _ (processors : ℕ) (widths periods deadlines runs : List ℕ) (room : ℕ) where
-  abbrev columns : List Rule
-  columns = columnRules processors (length widths) (length periods) (length deadlines) (length runs)
-
-  abbrev order : Order
-  order = columnOrder processors widths periods deadlines runs
-
+-- the branches of an order written, once 3 and 4 hold
+module _ (o : Order) (room : ℕ) (processors : within 1 mostProcessors (o .processors) ≡ true) (tasks : within 1 mostTasks (o .tasks) ≡ true) where
   abbrev size : ℕ
-  size = orderLength (length widths)
+  size = orderLength 1 (o .tasks)
 
-  pub write-columns : {refusal : Refusal} → firstBroken 0 columns ≡ Refused refusal → writeAnswer processors widths periods deadlines runs room ≡ Refused refusal
-  unfolding writeAnswer writeRules
-  write-columns {refusal} e = stop size columns _ refusal (any-count 0 size columns refusal e)
+  pub written-stop : {refusal : Refusal} → firstBroken 0 (rangeRules o) ≡ Refused refusal → firstBroken size (writtenRules o room) ≡ Refused refusal
+  unfolding writtenRules firstBroken
+  written-stop {refusal} e = rw (processors, tasks) (stop size (rangeRules o) _ refusal (any-count 0 size (rangeRules o) refusal e))
 
-  pub write-ranges : {count : ℕ} {refusal : Refusal} → firstBroken 0 columns ≡ Done count → firstBroken 0 (rangeRules processors (order .table) (length widths)) ≡ Refused refusal →
-      writeAnswer processors widths periods deadlines runs room ≡ Refused refusal
-  unfolding writeAnswer writeRules
-  write-ranges {count} {refusal} e r =
-      pass size columns _ (done-hold 0 columns e)
-      ∙ stop size (rangeRules processors (order .table) (length widths)) _ refusal (any-count 0 size _ refusal r)
+  pub written-on : {count : ℕ} → firstBroken 0 (rangeRules o) ≡ Done count → firstBroken size (writtenRules o room) ≡ firstBroken size (roomRules size room)
+  unfolding writtenRules firstBroken
+  written-on e = rw (processors, tasks) (pass-on size (rangeRules o) _ (done-pass 0 (rangeRules o) e))
 
-  pub write-room : {count other : ℕ} → firstBroken 0 columns ≡ Done count → firstBroken 0 (rangeRules processors (order .table) (length widths)) ≡ Done other →
-      writeAnswer processors widths periods deadlines runs room ≡ firstBroken size (roomRules size room)
-  unfolding writeAnswer writeRules
-  write-room e r =
-      pass size columns _ (done-hold 0 columns e)
-      ∙ pass size (rangeRules processors (order .table) (length widths)) _ (done-hold 0 (rangeRules processors (order .table) (length widths)) r)
+pub written-tells : (o : Order) (room : ℕ) → TestsTell (writtenRules o room)
+unfolding writtenRules TestsTell
+written-tells o room = (in-range-tells _ _ _, λ _. (in-range-tells _ _ _, λ _. tell-append (rangeRules o) _ (range-tells o) (λ _. room-tells (orderLength 1 (o .tasks)) room)))
+
+-- 13
+pub same-tells : (c : TaskColumns) → Tells (oneLength c)
+same-tells c = (
+  λ e.
+      let one = both (eqb (length (c .widths)) (length (c .periods))) _ e in
+      let two = both (eqb (length (c .widths)) (length (c .deadlines))) _ (one .1) in
+      record { periods-same = sym (eqb-true _ _ (one .0)); deadlines-same = sym (eqb-true _ _ (two .0)); runs-same = sym (eqb-true _ _ (two .1)) },
+  λ same. rw (eq-eqb _ _ (sym (same .periods-same)), eq-eqb _ _ (sym (same .deadlines-same))) (eq-eqb _ _ (sym (same .runs-same))),
+)
+
+pub write-on : (processors : ℕ) (c : TaskColumns) (room : ℕ) → oneLength c .test ≡ true →
+    writeAnswer processors c room ≡ firstBroken (orderLength 1 (columnOrder processors c .tasks)) (writtenRules (columnOrder processors c) room)
+unfolding writeAnswer writeRules firstBroken
+write-on processors c room e = rw e
+
+pub write-tells : (processors : ℕ) (c : TaskColumns) (room : ℕ) → TestsTell (writeRules processors c room)
+unfolding writeRules TestsTell
+write-tells processors c room = (same-tells c, λ _. written-tells (columnOrder processors c) room)

@@ -1,51 +1,55 @@
-// The order's writer: from M and four columns to an order's bytes, or the first refusal.
+// The order's writer, in two halves: an order's bytes, or the first refusal; and M and four columns as an order.
 use model::Answer;
+use model::CallCause;
 use model::Order;
+use model::OrderCause;
 use model::Refusal;
 use model::Task;
+use model::wide;
 ghost use mathlib.Core.Path.{_≡_};
 ghost use mathlib.Core.List.{_++_};
-ghost use Prim.Native.Nat.{ℕ, _*_, _≤_, _<_};
+ghost use Prim.Native.Nat.{_*_, _≤_, _<_, min};
 ghost use lib.ListN.{length, drop};
 ghost use Rattle.laws.specs.Joined.{filled};
-ghost use Rattle.bits.specs.Packed.{bytesOf};
-ghost use Rattle.model.specs.Limits.{zeroTask, taskOf, orderLength};
-ghost use Rattle.model.specs.Rules.{firstBroken};
-ghost use Rattle.order.specs.Order.{headerSlots, taskSlots, recordsOf, orderBytes};
-ghost use Rattle.order_out.specs.Write.{TaskFits, OrderFits, PutIfRoom, SameLengths, sameLengths, columnTask, columnRules, writeAnswer, Writes};
-
-fn wide(x: u32) -> u64
-    ensures { λ r. ⌜ r ≡ x ⌝ }
-{
-    x as u64
-}
+ghost use Rattle.bits.specs.Layout.{bytesIn, recordBytes, FitIn};
+ghost use Rattle.model.specs.Limits.{mostTasks, zeroTask};
+ghost use Rattle.model.specs.Layouts.{orderHeader, taskRecord, orderLength};
+ghost use Rattle.order.specs.Order.{headerNumbers, headerFor, taskNumbers, taskBytes, tableBytes, orderBytes};
+ghost use Rattle.order_out.specs.Write.{OrderFits, PutIfRoom, WritesOrder, columns, SameLengths, sameLengths, columnTask, columnOrder, Writes};
 
 // version 4 (=1), M 7, n 6, spare 7
 fn put_header(out: &mut [u8], processors: u32, tasks: u32)
-    requires { ⌜ (3 ≤ length (now out)) × (processors < 128) × (tasks < 64) ⌝ }
-    ensures { λ _. ⌜ now (out .exit) ≡ bytesOf (headerSlots processors tasks) ++ drop 3 (now (out .entry)) ⌝ }
+    requires { ⌜ (bytesIn orderHeader ≤ length (now out)) × FitIn orderHeader (headerNumbers (headerFor processors tasks)) ⌝ }
+    ensures { λ _. ⌜ now (out .exit) ≡ recordBytes orderHeader (headerNumbers (headerFor processors tasks)) ++ drop (bytesIn orderHeader) (now (out .entry)) ⌝ }
 {
     let number = ((128 + wide(processors)) * 64 + wide(tasks)) * 128;
-    bits::put_number(out, 3, number);
+    bits::put_number(out, Order::HEADER_BYTES, number);
 }
 
-// m 7, T 20, D 20, C 20, spare 5: 72 bits, in two numbers
+// A task's 72 bits are written as two numbers, the first so many bytes and the rest.
+const HIGH_BYTES: usize = 5;
+
+const LOW_BYTES: usize = Task::BYTES - HIGH_BYTES;
+
+// m 7, T 20, D 20, C 20, spare 5
 fn put_task(out: &mut [u8], task: Task)
-    requires { ⌜ (9 ≤ length (now out)) × TaskFits task ⌝ }
-    ensures { λ _. ⌜ now (out .exit) ≡ bytesOf (taskSlots task) ++ drop 9 (now (out .entry)) ⌝ }
+    requires { ⌜ (bytesIn (taskRecord 1) ≤ length (now out)) × FitIn (taskRecord 1) (taskNumbers task 0) ⌝ }
+    ensures { λ _. ⌜ now (out .exit) ≡ taskBytes task ++ drop (bytesIn (taskRecord 1)) (now (out .entry)) ⌝ }
 {
     let deadline = wide(task.deadline);
     let high = (wide(task.width) * 1_048_576 + wide(task.period)) * 8_192 + deadline / 128;
     let low = deadline % 128 * 33_554_432 + wide(task.run) * 32;
-    bits::put_number(out, 5, high);
-    bits::put_number(&mut out[5..], 4, low);
+    bits::put_number(out, HIGH_BYTES, high);
+    bits::put_number(&mut out[HIGH_BYTES..], LOW_BYTES, low);
 }
 
-// The records of the table's first tasks, from the front of out.
-fn put_tasks(out: &mut [u8], table: [Task; Order::MOST_TASKS], tasks: usize)
-    requires { ⌜ (tasks ≤ 32) × (9 * tasks ≤ length (now out)) × ((i : ℕ) → i < tasks → TaskFits (taskOf table i)) ⌝ }
-    ensures { λ _. ⌜ now (out .exit) ≡ recordsOf table tasks ++ drop (9 * tasks) (now (out .entry)) ⌝ }
+// The records of an order's tasks, from the front of out.
+fn put_tasks(out: &mut [u8], order: Order)
+    requires { ⌜ OrderFits order × (bytesIn (taskRecord 1) * order .tasks ≤ length (now out)) ⌝ }
+    ensures { λ _. ⌜ now (out .exit) ≡ tableBytes order (order .tasks) ++ drop (bytesIn (taskRecord 1) * order .tasks) (now (out .entry)) ⌝ }
 {
+    let table = order.table;
+    let tasks = order.tasks as usize;
     let mut i: usize = 0;
     while i < tasks {
         let task = table[i];
@@ -56,13 +60,42 @@ fn put_tasks(out: &mut [u8], table: [Task; Order::MOST_TASKS], tasks: usize)
 }
 
 // An order's bytes into the front of out.
-pub fn put_order(out: &mut [u8], order: Order)
-    requires { ⌜ OrderFits order × (orderLength (order .tasks) ≤ length (now out)) ⌝ }
-    ensures { λ _. ⌜ now (out .exit) ≡ orderBytes order ++ drop (orderLength (order .tasks)) (now (out .entry)) ⌝ }
+fn put_order(out: &mut [u8], order: Order)
+    requires { ⌜ OrderFits order × (orderLength 1 (order .tasks) ≤ length (now out)) ⌝ }
+    ensures { λ _. ⌜ now (out .exit) ≡ orderBytes order ++ drop (orderLength 1 (order .tasks)) (now (out .entry)) ⌝ }
 {
     put_header(out, order.processors, order.tasks);
-    let table = order.table;
-    put_tasks(&mut out[3..], table, order.tasks as usize);
+    put_tasks(&mut out[Order::HEADER_BYTES..], order);
+}
+
+// An order that fits its fields, where there is room for it: 12.
+fn put_if_room(order: Order, out: &mut [u8]) -> Answer
+    requires { ⌜ OrderFits order ⌝ }
+    ensures { λ r. ⌜ PutIfRoom order (now (out .entry)) r (now (out .exit)) ⌝ }
+{
+    let size = Order::bytes(order.tasks as usize);
+    if out.len() < size {
+        return Answer::Refused(Refusal::OfCall(CallCause::Output));
+    }
+    put_order(out, order);
+    Answer::Done(size as u32)
+}
+
+// An order's bytes: 3, 4, then task by task 7 to 10, then 12.
+pub fn write(order: Order, out: &mut [u8]) -> Answer
+    ensures { λ r. ⌜ WritesOrder order (now (out .entry)) r (now (out .exit)) ⌝ }
+{
+    if !model::within(1, Order::MOST_PROCESSORS, order.processors) {
+        return Answer::Refused(Refusal::OfOrder(OrderCause::Processors));
+    }
+    if !model::within(1, Order::MOST_TASKS as u32, order.tasks) {
+        return Answer::Refused(Refusal::OfOrder(OrderCause::Tasks));
+    }
+    let judged = order.judge();
+    if let Answer::Refused(cause) = judged {
+        return Answer::Refused(cause);
+    }
+    put_if_room(order, out)
 }
 
 fn same_lengths(widths: usize, periods: usize, deadlines: usize, runs: usize) -> bool
@@ -79,29 +112,10 @@ fn same_lengths(widths: usize, periods: usize, deadlines: usize, runs: usize) ->
     }
 }
 
-// 13, 3, 4
-fn judge_columns(
-    processors: u32,
-    widths: usize,
-    periods: usize,
-    deadlines: usize,
-    runs: usize,
-) -> Answer
-    ensures { λ r. ⌜ r ≡ firstBroken 0 (columnRules processors widths periods deadlines runs) ⌝ }
+fn at_most(rows: usize, most: usize) -> usize
+    ensures { λ r. ⌜ r ≡ min rows most ⌝ }
 {
-    if !same_lengths(widths, periods, deadlines, runs) {
-        return Answer::Refused(Refusal::Columns);
-    }
-    if !model::within(1, Order::MOST_PROCESSORS, processors) {
-        return Answer::Refused(Refusal::Processors);
-    }
-    if widths < 1 {
-        return Answer::Refused(Refusal::Tasks);
-    }
-    if widths > Order::MOST_TASKS {
-        return Answer::Refused(Refusal::Tasks);
-    }
-    Answer::Done(0)
+    if rows < most { rows } else { most }
 }
 
 fn column_task(
@@ -111,8 +125,8 @@ fn column_task(
     runs: &[u32],
     task: usize,
 ) -> Task
-    requires { ⌜ SameLengths (now widths) (now periods) (now deadlines) (now runs) × (task < length (now widths)) ⌝ }
-    ensures { λ r. ⌜ r ≡ columnTask (now (widths .entry)) (now (periods .entry)) (now (deadlines .entry)) (now (runs .entry)) task ⌝ }
+    requires { ⌜ SameLengths (columns (now widths) (now periods) (now deadlines) (now runs)) × (task < length (now widths)) ⌝ }
+    ensures { λ r. ⌜ r ≡ columnTask (columns (now (widths .entry)) (now (periods .entry)) (now (deadlines .entry)) (now (runs .entry))) task ⌝ }
 {
     Task {
         width: widths[task],
@@ -122,19 +136,20 @@ fn column_task(
     }
 }
 
-// The columns as a table.
+// The columns' first rows as a table.
 fn column_table(
     widths: &[u32],
     periods: &[u32],
     deadlines: &[u32],
     runs: &[u32],
 ) -> [Task; Order::MOST_TASKS]
-    requires { ⌜ SameLengths (now widths) (now periods) (now deadlines) (now runs) × (length (now widths) ≤ 32) ⌝ }
-    ensures { λ r. ⌜ r ≡ filled (columnTask (now (widths .entry)) (now (periods .entry)) (now (deadlines .entry)) (now (runs .entry))) zeroTask 32 (length (now (widths .entry))) ⌝ }
+    requires { ⌜ SameLengths (columns (now widths) (now periods) (now deadlines) (now runs)) ⌝ }
+    ensures { λ r. ⌜ r ≡ filled (columnTask (columns (now (widths .entry)) (now (periods .entry)) (now (deadlines .entry)) (now (runs .entry)))) zeroTask mostTasks (min (length (now (widths .entry))) mostTasks) ⌝ }
 {
+    let rows = at_most(widths.len(), Order::MOST_TASKS);
     let mut table = [Task::zero(); Order::MOST_TASKS];
     let mut i: usize = 0;
-    while i < widths.len() {
+    while i < rows {
         let task = column_task(widths, periods, deadlines, runs, i);
         table[i] = task;
         i += 1;
@@ -142,20 +157,26 @@ fn column_table(
     table
 }
 
-// An order within the limits, where it fits.
-fn put_if_room(order: Order, out: &mut [u8]) -> Answer
-    requires { ⌜ OrderFits order ⌝ }
-    ensures { λ r. ⌜ PutIfRoom order (now (out .entry)) r (now (out .exit)) ⌝ }
+// M and the columns as an order; more than 32 rows are one task too many.
+fn column_order(
+    processors: u32,
+    widths: &[u32],
+    periods: &[u32],
+    deadlines: &[u32],
+    runs: &[u32],
+) -> Order
+    requires { ⌜ SameLengths (columns (now widths) (now periods) (now deadlines) (now runs)) ⌝ }
+    ensures { λ r. ⌜ r ≡ columnOrder processors (columns (now (widths .entry)) (now (periods .entry)) (now (deadlines .entry)) (now (runs .entry))) ⌝ }
 {
-    let size = Order::bytes(order.tasks as usize);
-    if out.len() < size {
-        return Answer::Refused(Refusal::Output);
+    let tasks = at_most(widths.len(), Order::MOST_TASKS + 1);
+    Order {
+        processors,
+        tasks: tasks as u32,
+        table: column_table(widths, periods, deadlines, runs),
     }
-    put_order(out, order);
-    Answer::Done(size as u32)
 }
 
-// M and the columns as an order: 13, 3, 4, then task by task 7 to 10, then 12.
+// M and four columns: 13, then the order that they make.
 pub fn write_order(
     processors: u32,
     widths: &[u32],
@@ -164,26 +185,11 @@ pub fn write_order(
     runs: &[u32],
     out: &mut [u8],
 ) -> Answer
-    ensures { λ r. ⌜ Writes processors (now (widths .entry)) (now (periods .entry)) (now (deadlines .entry)) (now (runs .entry)) (now (out .entry)) r (now (out .exit)) ⌝ }
+    ensures { λ r. ⌜ Writes processors (columns (now (widths .entry)) (now (periods .entry)) (now (deadlines .entry)) (now (runs .entry))) (now (out .entry)) r (now (out .exit)) ⌝ }
 {
-    let columns = judge_columns(
-        processors,
-        widths.len(),
-        periods.len(),
-        deadlines.len(),
-        runs.len(),
-    );
-    if let Answer::Refused(cause) = columns {
-        return Answer::Refused(cause);
+    if !same_lengths(widths.len(), periods.len(), deadlines.len(), runs.len()) {
+        return Answer::Refused(Refusal::OfCall(CallCause::Columns));
     }
-    let order = Order {
-        processors,
-        tasks: widths.len() as u32,
-        table: column_table(widths, periods, deadlines, runs),
-    };
-    let judged = order.judge();
-    if let Answer::Refused(cause) = judged {
-        return Answer::Refused(cause);
-    }
-    put_if_room(order, out)
+    let order = column_order(processors, widths, periods, deadlines, runs);
+    write(order, out)
 }

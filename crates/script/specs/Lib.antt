@@ -1,3 +1,2 @@
 pub mod Script
-pub mod Meaning
-pub mod Accepted
+pub mod Claims

@@ -1,2 +1,2 @@
-pub mod Slopes
-pub mod Judged
+pub mod InTurn
+pub mod Full

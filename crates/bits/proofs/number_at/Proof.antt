@@ -20,8 +20,8 @@ abbrev μ-loop : tie.MeasureT-loop
 abbrev S : tie.In-loop Inv-loop μ-loop → List ℕ
 S c = now (c .before .before .before .args .s)
 
-small : (c : tie.In-loop Inv-loop μ-loop) → c .before .loop .number < 4294967296
-small c = rw (c .before .loop .inv .1) (field-under (S c) _ _ 32 (omega arith))
+small : (c : tie.In-loop Inv-loop μ-loop) → c .before .loop .number < 72_057_594_037_927_936
+small c = rw (c .before .loop .inv .1) (field-under (S c) _ _ 56 (omega arith))
 
 loop-holds : tie.Need-loop-holds Inv-loop μ-loop
 loop-holds c = (search needs, sym (field-none _ _))

@@ -2,7 +2,7 @@ use borrow.Author.Needs.{needs}
 use Prim.Native.Nat.{_≤_}
 use mathlib.Core.Path.{_≡_, refl}
 use lib.ListN.{length, length-set}
-use Rattle.bits.proofs.Packed.{WrittenFrom, written-none, written-more, written-all}
+use Rattle.bits.proofs.Records.{WrittenFrom, written-none, written-more, written-all}
 use Rattle.bits.proofs.put_number.Statement.{statement}
 use Rattle.bits.proofs.put_number.Tie as tie
 

@@ -4,7 +4,8 @@ use mathlib.Core.Path.{_≡_, sym, _∙_}
 use mathlib.Core.Bool.{true}
 use lib.Dec.{leb, eqb}
 use Rattle.laws.specs.Choice.{within as inRange}
-use Rattle.model.specs.Limits.{mostTasks, mostProcessors, orderLength}
+use Rattle.model.specs.Limits.{mostTasks, mostProcessors}
+use Rattle.model.specs.Layouts.{orderLength}
 use Rattle.model.specs.Rules.{firstBroken}
 use Rattle.order.specs.Order.{headerRules}
 use Rattle.order.proofs.judge_header.Statement.{statement}
@@ -23,7 +24,7 @@ processors-in c = sym (c .before .within .ensures) ∙ not-false _ (c .if3 .left
 tasks-in : (c : tie.Else4) → inRange 1 mostTasks (c .before .before .before .before .before .before .before .args .header .tasks) ≡ true
 tasks-in c = sym (c .before .within2 .ensures) ∙ not-false _ (c .if4 .left)
 
-size-right : (c : tie.Else5) → let a = c .before .before .before .before .before .before .before .before .before .before .args in eqb (a .size) (orderLength (a .header .tasks)) ≡ true
+size-right : (c : tie.Else5) → let a = c .before .before .before .before .before .before .before .before .before .before .args in eqb (a .size) (orderLength 1 (a .header .tasks)) ≡ true
 size-right c = eq-eqb _ _ (c .if5 .left ∙ c .before .bytes .ensures)
 
 returns : tie.Need-returns

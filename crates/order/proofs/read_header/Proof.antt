@@ -1,8 +1,7 @@
 use borrow.Author.Needs.{needs}
-use mathlib.Core.Path.{_≡_, ap, _∙_}
-use Prim.Native.Nat.{_+_}
-use denote.Ref.{now}
-use Rattle.bits.specs.Field.{field}
+use native.Mathlib.Omega.{arith}
+use mathlib.Core.Path.{_≡_}
+use Rattle.bits.specs.Layout.{numbersAt}
 use Rattle.order.specs.Order.{headerOf}
 use Rattle.order.proofs.read_header.Statement.{statement}
 use Rattle.order.proofs.read_header.Tie as tie
@@ -20,19 +19,11 @@ take-field-requires-4 : tie.Need-take-field-requires-4
 take-field-requires-4 c κs = search needs
 
 returns : tie.Need-returns
-unfolding headerOf
+unfolding headerOf numbersAt
 returns c =
-    let s = now (c .before .before .before .before .before .args .order) in
-    let one = c .before .before .before .take-field in
-    let two = c .before .before .take-field2 in
-    let three = c .before .take-field3 in
-    let at-two : one .result .next .at ≡ 4 = one .ensures .1 in
-    let at-three : two .result .next .at ≡ 11 = two .ensures .1 ∙ ap (_+ 7) at-two in
-    let at-four : three .result .next .at ≡ 17 = three .ensures .1 ∙ ap (_+ 6) at-three in
-    let processors : two .result .value ≡ field s 4 7 = two .ensures .0 ∙ ap (λ x. field s x 7) at-two in
-    let tasks : three .result .value ≡ field s 11 6 = three .ensures .0 ∙ ap (λ x. field s x 6) at-three in
-    let spare : c .take-field4 .result .value ≡ field s 17 7 = c .take-field4 .ensures .0 ∙ ap (λ x. field s x 7) at-four in
-    rw (one .ensures .0, processors, tasks, spare)
+    let at-three : c .before .before .take-field2 .result .next .at ≡ 11 = omega arith in
+    let at-four : c .before .take-field3 .result .next .at ≡ 17 = omega arith in
+    cc
 
 pub read-header-spec : {M : Type 1} → statement M
 read-header-spec =

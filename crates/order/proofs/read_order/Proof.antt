@@ -12,7 +12,7 @@ use Rattle.model.specs.declared.answer.Answer.{Answer}
 use Rattle.model.specs.declared.answer.Answer.the-variants.{Done}
 use Rattle.model.specs.Limits.{mostTasks, zeroTask}
 use Rattle.model.specs.Rules.{firstBroken, rangeRules}
-use Rattle.model.proofs.Rules.{done-hold}
+use Rattle.model.proofs.Rules.{done-pass}
 use Rattle.order.specs.declared.Header.{Header}
 use Rattle.order.specs.Order.{headerOf, headerRules, spareRules, layoutRules, taskAt, orderAt}
 use Rattle.order.proofs.Rules.{tasks-small, header-sound, layout-stop, layout-on, read-stop, read-range, read-done}
@@ -32,9 +32,9 @@ header-same w = w .before .read-header .ensures
 found : (w : tie.After-judge-header) → firstBroken 0 (headerRules (length (S w)) (headerOf (S w))) ≡ w .judge-header .result
 found w = ap (λ (h : Header). firstBroken 0 (headerRules (length (S w)) h)) (sym (header-same w)) ∙ sym (w .judge-header .ensures)
 
-tasks-few : (w : tie.After-judge-header) {count : ℕ} → w .judge-header .result ≡ Done count → header w .tasks ≤ 32
+tasks-few : (w : tie.After-judge-header) {count : ℕ} → w .judge-header .result ≡ Done count → header w .tasks ≤ mostTasks
 tasks-few w e =
-    let sound = header-sound (length (S w)) (headerOf (S w)) (done-hold 0 (headerRules (length (S w)) (headerOf (S w))) (found w ∙ e)) in
+    let sound = header-sound (length (S w)) (headerOf (S w)) (done-pass 0 (headerRules (length (S w)) (headerOf (S w))) (found w ∙ e)) in
     omega (arith, sound .tasks .1, ap (λ (h : Header). h .tasks) (header-same w))
 
 abbrev judged : tie.After-read-table → tie.After-judge-header
@@ -59,7 +59,7 @@ read-same c =
     order-same (S (judged t)) (header (judged t)) _ (header-same (judged t)) (t .read-table .ensures .1 _ (c .before .enum-told2 .given .1))
 
 abbrev rangesOf : Order → Answer
-rangesOf o = firstBroken 0 (rangeRules (o .processors) (o .table) (o .tasks))
+rangesOf o = firstBroken 0 (rangeRules o)
 
 ranges-same : (c : tie.After-judge) → c .judge .result ≡ rangesOf (orderAt (S (judged (c .before .before .before .before))))
 ranges-same c = c .judge .ensures ∙ ap rangesOf (read-same (c .before))

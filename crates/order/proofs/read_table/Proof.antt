@@ -1,22 +1,21 @@
 use borrow.Author.Needs.{needs}
 use lib.ListN.{replicate}
-use Prim.Native.Nat.{ℕ, _≤_, _-_}
+use Prim.Native.Nat.{_≤_, _-_}
 use mathlib.Core.Path.{_≡_, sym, ap, _∙_}
 use native.Mathlib.Nat.{le-antisymm}
 use native.Mathlib.Omega.{arith}
 use denote.Ref.{now}
 use Rattle.laws.specs.Joined.{filled}
 use Rattle.laws.proofs.Joined.{filled-none, filled-more}
-use Rattle.model.specs.Limits.{zeroTask}
-use Rattle.model.specs.Rules.{allHold}
-use Rattle.model.proofs.Rules.{hold-done}
-use Rattle.order.specs.Order.{recordAt, taskAt, spareRules}
+use Rattle.model.specs.Limits.{mostTasks, zeroTask}
+use Rattle.model.proofs.Rules.{AllPass, pass-done, never}
+use Rattle.order.specs.Order.{taskStart, taskAt, spareRules}
 use Rattle.order.proofs.Rules.{spare-none, spare-more, spare-stop}
 use Rattle.order.proofs.read_table.Statement.{statement}
 use Rattle.order.proofs.read_table.Tie as tie
 
 abbrev Inv-loop : tie.InvT-loop
-Inv-loop order tasks table₀ at₀ i₀ table at i = (i ≤ tasks) × (at ≡ recordAt i) × allHold (spareRules order i) × (table ≡ filled (taskAt order) zeroTask 32 i)
+Inv-loop order tasks table₀ at₀ i₀ table at i = (i ≤ tasks) × (at ≡ taskStart i) × AllPass (spareRules order i) × (table ≡ filled (taskAt order) zeroTask mostTasks i)
 
 abbrev μ-loop : tie.MeasureT-loop
 μ-loop order tasks table₀ at₀ i₀ table at i = tasks - i
@@ -28,7 +27,7 @@ mul-at : tie.Need-mul-at Inv-loop μ-loop
 mul-at c = search needs
 
 loop-holds : tie.Need-loop-holds Inv-loop μ-loop
-loop-holds c = (search needs, search needs, spare-none _, ap (replicate 32) (c .zero .ensures) ∙ filled-none (taskAt (now (c .before .before .args .order))) zeroTask 32)
+loop-holds c = (search needs, search needs, spare-none _, ap (replicate mostTasks) (c .zero .ensures) ∙ filled-none (taskAt (now (c .before .before .args .order))) zeroTask mostTasks)
 
 read-task-requires : tie.Need-read-task-requires Inv-loop μ-loop
 read-task-requires c κs = search needs
@@ -42,7 +41,7 @@ returns c =
     let a = w .before .before .before .args in
     let taken = c .before .before .read-task .ensures (w .loop .i) (w .loop .inv .1) in (
       sym (spare-stop (now (a .order)) (a .tasks) (w .loop .i) (c .before .before .before .loop-test .taken) (w .loop .inv .2) (λ e. c .if1 .taken (taken .1 ∙ e))),
-      λ count e. let clash : _≡_ {A = ℕ} 0 1 = cc in absurd (omega arith),
+      λ count e. never e,
     )
 
 mul-table : tie.Need-mul-table Inv-loop μ-loop
@@ -62,14 +61,14 @@ loop-again c =
     let w = c .before .before .before .before .before in
     let s = now (w .before .before .before .args .order) in
     let taken = c .before .before .before .read-task .ensures (w .loop .i) (w .loop .inv .1) in
-    (search needs, taken .2, spare-more s (w .loop .i) (w .loop .inv .2) (sym (taken .1) ∙ c .before .if1 .left), cc (filled-more (taskAt s) zeroTask 32 (w .loop .i) (omega arith)))
+    (search needs, taken .2, spare-more s (w .loop .i) (w .loop .inv .2) (sym (taken .1) ∙ c .before .if1 .left), cc (filled-more (taskAt s) zeroTask mostTasks (w .loop .i) (omega arith)))
 
 returns-2 : tie.Need-returns-2 Inv-loop μ-loop
 returns-2 c =
     let w = c .before in
     let a = w .before .before .before .args in
     let all : w .loop .i ≡ a .tasks = le-antisymm (w .loop .inv .0) (c .loop-test .left) in
-    (sym (hold-done 0 (spareRules (now (a .order)) (a .tasks)) (rw all at (w .loop .inv .2))), λ count e. w .loop .inv .3 ∙ rw all)
+    (sym (pass-done 0 (spareRules (now (a .order)) (a .tasks)) (rw all at (w .loop .inv .2))), λ count e. w .loop .inv .3 ∙ rw all)
 
 pub read-table-spec : {M : Type 1} → statement M
 read-table-spec =

@@ -1,10 +1,4 @@
 use borrow.Author.Needs.{needs}
-use Prim.Native.Nat.{ℕ, _+_, _*_}
-use mathlib.Core.Path.{_≡_, ap, _∙_}
-use mathlib.Core.List.{_++_}
-use lib.ListN.{drop}
-use denote.Ref.{now}
-use Rattle.bits.specs.Packed.{packed}
 use Rattle.order_out.proofs.Bytes.{header-bytes}
 use Rattle.order_out.proofs.put_header.Statement.{statement}
 use Rattle.order_out.proofs.put_header.Tie as tie
@@ -35,10 +29,8 @@ same-length c = search needs
 
 returns : tie.Need-returns
 returns c =
-    let w = c .before .before .before .before in
-    let a = w .before .before .before .args in
-    let number : ((128 + w .before .wide .result) * 64 + w .wide2 .result) * 128 ≡ ((128 + a .processors) * 64 + a .tasks) * 128 = rw (w .before .wide .ensures, w .wide2 .ensures) in
-    c .before .before .put-number .ensures ∙ ap (λ (n : ℕ). packed 3 n ++ drop 3 (now (a .out))) number ∙ rw (header-bytes (a .processors) (a .tasks))
+    let a = c .before .before .before .before .before .before .before .args in
+    cc (header-bytes (a .processors) (a .tasks))
 
 pub put-header-spec : {M : Type 1} → statement M
 put-header-spec =

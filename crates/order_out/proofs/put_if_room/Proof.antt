@@ -4,7 +4,8 @@ use native.Mathlib.Omega.{arith}
 use lib.ListN.{length}
 use denote.Ref.{now}
 use Rattle.model.specs.declared.answer.Answer.the-variants.{Done}
-use Rattle.model.specs.declared.answer.Refusal.the-variants.{Output}
+use Rattle.model.specs.declared.answer.Refusal.the-variants.{OfCall}
+use Rattle.model.specs.declared.answer.CallCause.the-variants.{Output}
 use Rattle.model.proofs.Output.{after-done, after-refused}
 use Rattle.order.specs.Order.{orderBytes}
 use Rattle.model.proofs.Rules.{room-stop, room-on}
@@ -23,7 +24,7 @@ returns c =
     let size = c .before .bytes .ensures in
     record {
       answered = sym (room-stop _ _ (length (now (a .out))) (rw size at (c .if1 .taken)));
-      written = sym (after-refused Output (orderBytes (a .order)) (now (a .out)));
+      written = sym (after-refused (OfCall Output) (orderBytes (a .order)) (now (a .out)));
     }
 
 put-order-requires : tie.Need-put-order-requires
@@ -31,8 +32,8 @@ put-order-requires c κs =
     let w = c .before in
     (w .before .before .before .before .pre, rw (w .before .bytes .ensures) at (w .if1 .left))
 
-cast-t10 : tie.Need-cast-t10
-cast-t10 c = search needs
+cast-t11 : tie.Need-cast-t11
+cast-t11 c = search needs
 
 same-length : tie.Need-same-length
 same-length c = search needs
@@ -50,4 +51,4 @@ returns-2 c =
 pub put-if-room-spec : {M : Type 1} → statement M
 put-if-room-spec =
     tie.close
-    (tie.spec cast-bytes bytes-requires returns put-order-requires cast-t10 same-length returns-2)
+    (tie.spec cast-bytes bytes-requires returns put-order-requires cast-t11 same-length returns-2)

@@ -1,19 +1,16 @@
 use borrow.Author.Needs.{needs}
 use Prim.Native.Nat.{_*_}
-use native.Mathlib.Omega.{arith}
-use lib.ListN.{length-drop}
 use denote.Ref.{now}
-use Rattle.laws.proofs.Front.{part-from, front-step}
-use Rattle.bits.specs.Packed.{bytesOf}
-use Rattle.order.specs.Order.{headerSlots, recordsOf, orderBytes}
-use Rattle.order_out.proofs.Bytes.{length-header}
+use Rattle.laws.proofs.Front.{front-step}
+use Rattle.bits.specs.Layout.{recordBytes}
+use Rattle.bits.proofs.Records.{length-record}
+use Rattle.model.specs.Layouts.{orderHeader}
+use Rattle.order.specs.Order.{headerNumbers, headerFor, tableBytes, orderBytes}
 use Rattle.order_out.proofs.put_order.Statement.{statement}
 use Rattle.order_out.proofs.put_order.Tie as tie
 
 put-header-requires : tie.Need-put-header-requires
-put-header-requires c κs =
-    let p = c .before .before .pre in
-    (omega (arith, p .1), p .0 .processors, omega (arith, p .0 .tasks))
+put-header-requires c κs = search needs
 
 sub-put-tasks : tie.Need-sub-put-tasks
 sub-put-tasks c = search needs
@@ -24,14 +21,8 @@ part-put-tasks-start c = search needs
 part-put-tasks-end : tie.Need-part-put-tasks-end
 part-put-tasks-end c = search needs
 
-cast-put-tasks : tie.Need-cast-put-tasks
-cast-put-tasks c = search needs
-
 put-tasks-requires : tie.Need-put-tasks-requires
-put-tasks-requires c κs =
-    let h = c .before .before .before .before .before in
-    let p = h .before .before .before .pre in
-    (p .0 .tasks, rw (part-from 3 (h .put-header .last .0), length-drop) (omega (arith, p .1, h .put-header .kept .0)), p .0 .each)
+put-tasks-requires c κs = search needs
 
 same-length : tie.Need-same-length
 same-length c = search needs
@@ -39,10 +30,10 @@ same-length c = search needs
 returns : tie.Need-returns
 unfolding orderBytes
 returns c =
-    let h = c .before .before .before .before .before .before .before .before in
+    let h = c .before .before .before .before .before .before in
     let a = h .before .before .before .args in
     let o = a .order in
-    front-step (bytesOf (headerSlots (o .processors) (o .tasks))) (recordsOf (o .table) (o .tasks)) (now (a .out)) (h .put-header .last .0) (c .before .before .put-tasks .last .0) 3 (9 * o .tasks) (length-header (o .processors) (o .tasks)) (h .put-header .ensures) (c .before .before .put-tasks .ensures)
+    front-step (recordBytes orderHeader (headerNumbers (headerFor (o .processors) (o .tasks)))) (tableBytes o (o .tasks)) (now (a .out)) (h .put-header .last .0) (c .before .before .put-tasks .last .0) 3 (9 * o .tasks) (length-record orderHeader _) (h .put-header .ensures) (c .before .before .put-tasks .ensures)
 
 pub put-order-spec : {M : Type 1} → statement M
 put-order-spec =
@@ -52,7 +43,6 @@ put-order-spec =
     sub-put-tasks
     part-put-tasks-start
     part-put-tasks-end
-    cast-put-tasks
     put-tasks-requires
     same-length
     returns)

@@ -1,12 +1,10 @@
 use borrow.Author.Needs.{needs}
-use Prim.Native.Nat.{ℕ, _+_, _-_, _*_, _/_, _%_}
-use mathlib.Core.Path.{_≡_, ap, _∙_}
-use mathlib.Core.List.{_++_}
-use lib.ListN.{length, take, drop}
+use Prim.Native.Nat.{_+_, _-_, _*_, _/_, _%_}
+use mathlib.Core.Path.{_∙_}
 use denote.Ref.{now}
 use Rattle.laws.proofs.Front.{front-step}
-use Rattle.bits.specs.Packed.{packed}
-use Rattle.bits.proofs.Packed.{length-packed}
+use Rattle.bits.specs.Layout.{packed}
+use Rattle.bits.proofs.Records.{length-packed}
 use Rattle.order_out.proofs.Bytes.{task-bytes}
 use Rattle.order_out.proofs.put_task.Statement.{statement}
 use Rattle.order_out.proofs.put_task.Tie as tie
@@ -65,19 +63,12 @@ same-length c = search needs
 returns : tie.Need-returns
 returns c =
     let second = c .before .before .put-number2 in
-    let f = c .before .before .before .before .before .before in
-    let w = f .before .before in
-    let a = w .before .before .before .before .before .args in
-    let t = a .task in
-    let high : (w .before .before .wide2 .result * 1_048_576 + w .before .wide3 .result) * 8_192 + w .before .before .before .wide .result / 128 ≡ (t .width * 1_048_576 + t .period) * 8_192 + t .deadline / 128 =
-    rw (w .before .before .wide2 .ensures, w .before .wide3 .ensures, w .before .before .before .wide .ensures) in
-    let low : w .before .before .before .wide .result % 128 * 33_554_432 + w .wide4 .result * 32 ≡ t .deadline % 128 * 33_554_432 + t .run * 32 =
-    rw (w .before .before .before .wide .ensures, w .wide4 .ensures) in
-    let one = f .put-number .ensures ∙ ap (λ (n : ℕ). packed 5 n ++ drop 5 (now (a .out))) high in
-    let whole = f .put-number .last .0 in
-    let two = second .ensures ∙ ap (λ (n : ℕ). packed 4 n ++ drop 4 (take (length whole - 5) (drop 5 whole))) low in
-    front-step (packed 5 ((t .width * 1_048_576 + t .period) * 8_192 + t .deadline / 128)) (packed 4 (t .deadline % 128 * 33_554_432 + t .run * 32)) (now (a .out)) whole (second .last .0) 5 4 (length-packed 5 _) one two
-    ∙ rw (task-bytes t (w .before .before .before .before .before .pre .1))
+    let first = c .before .before .before .before .before .before in
+    let s = first .before .before .before .before .before .before .before in
+    let t = s .args .task in
+    let high = packed 5 ((t .width * 1_048_576 + t .period) * 8_192 + t .deadline / 128) in
+    let low = packed 4 (t .deadline % 128 * 33_554_432 + t .run * 32) in
+    front-step high low (now (s .args .out)) (first .put-number .last .0) (second .last .0) 5 4 (length-packed 5 _) (cc) (cc) ∙ rw (task-bytes t (s .pre .1))
 
 pub put-task-spec : {M : Type 1} → statement M
 put-task-spec =

@@ -4,24 +4,27 @@ use mathlib.Core.Path.{_≡_, refl, ap, _∙_}
 use mathlib.Core.List.{_++_}
 use native.Mathlib.Nat.{le-antisymm}
 use native.Mathlib.Omega.{arith}
-use lib.ListN.{length, drop, length-drop}
+use lib.ListN.{length, getD, drop, length-drop}
 use denote.Ref.{now}
 use Rattle.laws.proofs.Front.{part-from, front-step}
-use Rattle.model.specs.Limits.{taskOf}
-use Rattle.bits.specs.Packed.{bytesOf}
-use Rattle.order.specs.Order.{taskSlots, recordsOf}
-use Rattle.order_out.proofs.Bytes.{records-none, records-more, length-records}
+use Rattle.laws.proofs.Joined.{joined-none, joined-more}
+use Rattle.model.specs.Limits.{zeroTask}
+use Rattle.order.specs.Order.{taskBytes, tableBytes}
+use Rattle.order_out.proofs.Bytes.{recordsOf, length-records}
 use Rattle.order_out.proofs.put_tasks.Statement.{statement}
 use Rattle.order_out.proofs.put_tasks.Tie as tie
 
 abbrev Inv-loop : tie.InvT-loop
-Inv-loop out₀ tasks table i₀ out i = (i ≤ tasks) × (length out ≡ length out₀) × (out ≡ recordsOf table i ++ drop (9 * i) out₀)
+Inv-loop out₀ table tasks i₀ out i = (i ≤ tasks) × (length out ≡ length out₀) × (out ≡ recordsOf table i ++ drop (9 * i) out₀)
 
 abbrev μ-loop : tie.MeasureT-loop
-μ-loop out₀ tasks table i₀ out i = tasks - i
+μ-loop out₀ table tasks i₀ out i = tasks - i
+
+cast-tasks : tie.Need-cast-tasks Inv-loop μ-loop
+cast-tasks c = search needs
 
 loop-holds : tie.Need-loop-holds Inv-loop μ-loop
-loop-holds c = (search needs, refl, rw records-none)
+loop-holds c = (search needs, refl, rw joined-none)
 
 mul-task : tie.Need-mul-task Inv-loop μ-loop
 mul-task c = search needs
@@ -46,7 +49,8 @@ put-task-requires c κs =
     let w = c .before .before in
     let out = w .before .loop .out in
     let i = w .before .loop .i in
-    (rw (part-from (9 * i) out, length-drop) (omega arith), w .before .before .before .pre .2 i (w .loop-test .taken))
+    let p = w .before .before .before .before .before .pre in
+    (rw (part-from (9 * i) out, length-drop) (omega (arith, p .1)), p .0 .each i (w .loop-test .taken))
 
 add-i : tie.Need-add-i Inv-loop μ-loop
 add-i c = search needs
@@ -56,22 +60,24 @@ loop-less c = search needs
 
 loop-again : tie.Need-loop-again Inv-loop μ-loop
 loop-again c =
-    let w = c .before .before .before .before .before in
-    let a = w .before .before .before .args in
-    let out = w .before .loop .out in
-    let i = w .before .loop .i in
+    let w = c .before .before .before .before .before .before in
+    let a = w .before .before .before .before .args in
+    let table = a .order .table in
+    let out = w .loop .out in
+    let i = w .loop .i in
     let n : 9 * (i + 1) ≡ 9 * i + 9 = omega arith in
     let put = c .before .before .put-task in
-    let s = front-step (recordsOf (a .t2) i) (bytesOf (taskSlots (taskOf (a .t2) i))) (now (a .out)) out (put .last .0) (9 * i) 9 (length-records (a .t2) i) (w .before .loop .inv .2) (put .ensures) in
-    (search needs, c .before .out .given .1 ∙ w .before .loop .inv .1, s ∙ rw (records-more (a .t2) i, n))
+    let s = front-step (recordsOf table i) (taskBytes (getD table i zeroTask)) (now (a .out)) out (put .last .0) (9 * i) 9 (length-records table i) (w .loop .inv .2) (put .ensures) in
+    (search needs, c .before .out .given .1 ∙ w .loop .inv .1, s ∙ rw (joined-more (λ j. taskBytes (getD table j zeroTask)) i, n))
 
 same-length : tie.Need-same-length Inv-loop μ-loop
 same-length c = search needs
 
 returns : tie.Need-returns Inv-loop μ-loop
+unfolding tableBytes
 returns c =
-    let a = c .before .before .before .args in
-    c .before .loop .inv .2 ∙ ap (λ (n : ℕ). recordsOf (a .t2) n ++ drop (9 * n) (now (a .out))) (le-antisymm (c .before .loop .inv .0) (c .loop-test .left))
+    let a = c .before .before .before .before .before .args in
+    c .before .loop .inv .2 ∙ ap (λ (n : ℕ). recordsOf (a .order .table) n ++ drop (9 * n) (now (a .out))) (le-antisymm (c .before .loop .inv .0) (c .loop-test .left))
 
 pub put-tasks-spec : {M : Type 1} → statement M
 put-tasks-spec =
@@ -79,6 +85,7 @@ put-tasks-spec =
     (tie.spec
     Inv-loop
     μ-loop
+    cast-tasks
     loop-holds
     mul-task
     array-copy-out-task

@@ -3,13 +3,14 @@ use Prim.Native.Nat.{_≤_, _-_}
 use mathlib.Core.Path.{_≡_, sym, _∙_}
 use native.Mathlib.Nat.{le-antisymm}
 use Rattle.model.specs.Kinds.{Order}
-use Rattle.model.specs.Rules.{allHold, rangeRules}
-use Rattle.model.proofs.Rules.{hold-done, range-none, range-more, range-stop}
+use Rattle.model.specs.Rules.{rangeRules}
+use Rattle.model.proofs.Rules.{pass-done}
+use Rattle.model.proofs.Ranges.{InTurn, range-none, range-more, range-stop}
 use Rattle.model.proofs.order.Order.judge.Statement.{statement}
 use Rattle.model.proofs.order.Order.judge.Tie as tie
 
 abbrev Inv-loop : tie.InvT-loop
-Inv-loop self table tasks i₀ i = (i ≤ tasks) × allHold (rangeRules (self .processors) (self .table) i)
+Inv-loop self table tasks i₀ i = (i ≤ tasks) × InTurn self i
 
 abbrev μ-loop : tie.MeasureT-loop
 μ-loop self table tasks i₀ i = tasks - i
@@ -18,7 +19,7 @@ cast-tasks : tie.Need-cast-tasks Inv-loop μ-loop
 cast-tasks c = search needs
 
 loop-holds : tie.Need-loop-holds Inv-loop μ-loop
-loop-holds c = (search needs, range-none _ _)
+loop-holds c = (search needs, range-none (c .before .before .args .self))
 
 mul-task : tie.Need-mul-task Inv-loop μ-loop
 mul-task c = search needs
@@ -39,7 +40,7 @@ returns : tie.Need-returns Inv-loop μ-loop
 returns c =
     let w = c .before .before .before in
     let o = w .before .before .before .before .before .before .args .self in
-    sym (range-stop (o .processors) (o .table) (o .tasks) (w .before .before .before .loop .i) (w .before .before .loop-test .taken) (w .before .before .before .loop .inv .1) (sym (w .judge .ensures) ∙ c .before .judged .given .1))
+    sym (range-stop o (w .before .before .before .loop .i) (w .before .before .loop-test .taken) (w .before .before .before .loop .inv .1) (sym (w .judge .ensures) ∙ c .before .judged .given .1))
 
 enum-told : tie.Need-enum-told Inv-loop μ-loop
 enum-told c = search needs
@@ -54,13 +55,14 @@ loop-again : tie.Need-loop-again Inv-loop μ-loop
 loop-again c =
     let w = c .before .before in
     let o = w .before .before .before .before .before .before .args .self in
-    (search needs, range-more (o .processors) (o .table) (w .before .before .before .loop .i) (w .before .before .before .loop .inv .1) (sym (w .judge .ensures) ∙ c .enum-told .given .1))
+    (search needs, range-more o (w .before .before .before .loop .i) (w .before .before .before .loop .inv .1) (sym (w .judge .ensures) ∙ c .enum-told .given .1))
 
 returns-2 : tie.Need-returns-2 Inv-loop μ-loop
+unfolding rangeRules
 returns-2 c =
     let o = c .before .before .before .before .args .self in
     let all : c .before .loop .i ≡ o .tasks = le-antisymm (c .before .loop .inv .0) (c .loop-test .left) in
-    sym (hold-done 0 (rangeRules (o .processors) (o .table) (o .tasks)) (rw all at (c .before .loop .inv .1)))
+    sym (pass-done 0 (rangeRules o) (rw all at (c .before .loop .inv .1)))
 
 pub judge-spec : {M : Type 1} → statement M
 judge-spec =

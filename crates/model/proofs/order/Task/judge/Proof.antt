@@ -1,9 +1,9 @@
 use borrow.Author.Needs.{needs}
 use borrow.Author.Tests.{not-true, not-false}
-use mathlib.Core.Path.{_≡_, sym, _∙_}
+use mathlib.Core.Path.{_≡_, sym, ap, _∙_}
 use mathlib.Core.Bool.{true}
 use Rattle.laws.specs.Choice.{within as inRange}
-use Rattle.model.specs.Limits.{mostPeriod}
+use Rattle.model.specs.Limits.{mostPeriod, cost}
 use Rattle.model.specs.Rules.{firstBroken}
 use Rattle.model.proofs.order.Task.judge.Statement.{statement}
 use Rattle.model.proofs.order.Task.judge.Tie as tie
@@ -40,22 +40,25 @@ returns-3 c =
     let p = c .before .before in
     simp (width-in (p .before .before), period-in p, sym (c .before .within3 .ensures) ∙ not-true _ (c .if3 .taken))
 
+cost-requires : tie.Need-cost-requires
+cost-requires c κs = search needs
+
 within-requires-4 : tie.Need-within-requires-4
 within-requires-4 c κs = search needs
 
 returns-4 : tie.Need-returns-4
 unfolding firstBroken
 returns-4 c =
-    let d = c .before .before in
+    let d = c .before .before .before in
     let p = d .before .before in
-    simp (width-in (p .before .before), period-in p, deadline-in d, sym (c .before .within4 .ensures) ∙ not-true _ (c .if4 .taken))
+    simp (width-in (p .before .before), period-in p, deadline-in d, ap (inRange 1 (d .before .before .before .before .before .before .args .self .deadline)) (sym (c .before .before .cost .ensures)) ∙ sym (c .before .within4 .ensures) ∙ not-true _ (c .if4 .taken))
 
 returns-5 : tie.Need-returns-5
 unfolding firstBroken
 returns-5 c =
-    let d = c .before .before in
+    let d = c .before .before .before in
     let p = d .before .before in
-    simp (width-in (p .before .before), period-in p, deadline-in d, sym (c .before .within4 .ensures) ∙ not-false _ (c .if4 .left))
+    simp (width-in (p .before .before), period-in p, deadline-in d, ap (inRange 1 (d .before .before .before .before .before .before .args .self .deadline)) (sym (c .before .before .cost .ensures)) ∙ sym (c .before .within4 .ensures) ∙ not-false _ (c .if4 .left))
 
 pub judge-spec : {M : Type 1} → statement M
 judge-spec =
@@ -67,6 +70,7 @@ judge-spec =
     returns-2
     within-requires-3
     returns-3
+    cost-requires
     within-requires-4
     returns-4
     returns-5)

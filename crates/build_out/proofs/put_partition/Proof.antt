@@ -1,0 +1,41 @@
+use borrow.Author.Needs.{needs}
+use Rattle.build_out.proofs.Numbers.{partition-number}
+use Rattle.build_out.proofs.put_partition.Statement.{statement}
+use Rattle.build_out.proofs.put_partition.Tie as tie
+
+wide-requires : tie.Need-wide-requires
+wide-requires c κs = search needs
+
+mul-number : tie.Need-mul-number
+mul-number c = search needs
+
+wide-requires-2 : tie.Need-wide-requires-2
+wide-requires-2 c κs = search needs
+
+add-number : tie.Need-add-number
+add-number c = search needs
+
+mul-number-2 : tie.Need-mul-number-2
+mul-number-2 c = search needs
+
+put-number-requires : tie.Need-put-number-requires
+put-number-requires c κs = search needs
+
+same-length : tie.Need-same-length
+same-length c = search needs
+
+returns : tie.Need-returns
+returns c = cc (partition-number (c .before .before .before .before .before .before .before .args .place))
+
+pub put-partition-spec : {M : Type 1} → statement M
+put-partition-spec =
+    tie.close
+    (tie.spec
+    wide-requires
+    mul-number
+    wide-requires-2
+    add-number
+    mul-number-2
+    put-number-requires
+    same-length
+    returns)

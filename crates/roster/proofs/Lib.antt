@@ -1,0 +1,5 @@
+pub mod Line
+pub mod Rowing
+pub mod Runs
+pub mod Ranks
+pub mod Tied

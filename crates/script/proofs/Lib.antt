@@ -1,4 +1,0 @@
-pub mod Records
-pub mod Rules
-pub mod Accepted
-pub mod Meaning
