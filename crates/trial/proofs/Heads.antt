@@ -30,7 +30,7 @@ module _ (rows : List ℕ) (count : ℕ) (fit : RowsFit rows count) where
   asks-between g rank w le =
       let e : rank ≡ g + (rank - g) = omega arith in
       let split : sum (λ r. workBy (rowTask rows r) w) rank ≡ sum (λ r. workBy (rowTask rows r) w) g + sum (λ s. workBy (rowTask rows (g + s)) w) (rank - g) =
-            ap (sum (λ r. workBy (rowTask rows r) w)) e ∙ sum-split (λ r. workBy (rowTask rows r) w) g (rank - g) in
+      ap (sum (λ r. workBy (rowTask rows r) w)) e ∙ sum-split (λ r. workBy (rowTask rows r) w) g (rank - g) in
       omega (arith, split, sum-le (λ s. costAt rows (g + s)) (λ s. workBy (rowTask rows (g + s)) w) (rank - g) (λ s l. once (g + s) w))
 
   -- a longer blocking that the members between make up for
@@ -71,4 +71,3 @@ between-more rows g rank some le =
 pub between-most : (rows : List ℕ) (count : ℕ) → RowsFit rows count → (g rank : ℕ) → rank ≤ count → between rows g rank ≤ (rank - g) * 1_000_000
 unfolding cost
 between-most rows count fit g rank le = sum-most (λ s. costAt rows (g + s)) 1_000_000 (rank - g) (λ s l. cost-most rows count fit (g + s) (omega arith))
-

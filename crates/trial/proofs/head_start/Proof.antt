@@ -67,7 +67,7 @@ element-copy-out-result c = search needs
 
 -- src/lib.rt:55:13
 returns : tie.Need-returns Inv-loop μ-loop
-returns c = 
+returns c =
     let start = c .before .before .before .before .before .before .before in
     let a = start .args in
     let loop = c .before .before .before .before .before .loop in
