@@ -72,6 +72,10 @@ pub each-cost : (rows : List ℕ) (count : ℕ) → RowsFit rows count → (r : 
 unfolding cost
 each-cost rows count fit r l = cost-most rows count fit r l
 
+pub some-cost : (rows : List ℕ) (count : ℕ) → RowsFit rows count → (r : ℕ) → r < count → 0 < costAt rows r
+unfolding cost
+some-cost rows count fit r l = omega (arith, fit .each r l .cost-least)
+
 pub between-most : (rows : List ℕ) (count : ℕ) → RowsFit rows count → (g rank : ℕ) → rank ≤ count → between rows g rank ≤ (rank - g) * 1_000_000
 unfolding cost
 between-most rows count fit g rank le = sum-most (λ s. costAt rows (g + s)) 1_000_000 (rank - g) (λ s l. cost-most rows count fit (g + s) (omega arith))

@@ -1,4 +1,6 @@
 use borrow.Author.Needs.{needs}
+use native.Mathlib.Omega.{arith}
+use Rattle.asked.specs.Rows.{blockingIn}
 use Rattle.trial.proofs.blocking.Statement.{statement}
 use Rattle.trial.proofs.blocking.Tie as tie
 use Rattle.trial.proofs.blocking.Reads as reads
@@ -24,7 +26,8 @@ sub-result c = search needs
 
 -- src/lib.rt:31:1
 returns : tie.Need-returns
-returns c = search needs
+unfolding blockingIn
+returns c = omega (arith, c .larger .ensures, c .before .longest .ensures)
 
 pub blocking-spec : {M : Type 1} → statement M
 blocking-spec =
