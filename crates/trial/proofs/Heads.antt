@@ -30,7 +30,7 @@ module _ (rows : List ℕ) (count : ℕ) (fit : RowsFit rows count) where
   asks-between g rank w le =
       let e : rank ≡ g + (rank - g) = omega arith in
       let split : sum (λ r. workBy (rowTask rows r) w) rank ≡ sum (λ r. workBy (rowTask rows r) w) g + sum (λ s. workBy (rowTask rows (g + s)) w) (rank - g) =
-            ap (sum (λ r. workBy (rowTask rows r) w)) e ∙ sum-split (λ r. workBy (rowTask rows r) w) g (rank - g) in
+      ap (sum (λ r. workBy (rowTask rows r) w)) e ∙ sum-split (λ r. workBy (rowTask rows r) w) g (rank - g) in
       omega (arith, split, sum-le (λ s. costAt rows (g + s)) (λ s. workBy (rowTask rows (g + s)) w) (rank - g) (λ s l. once (g + s) w))
 
   -- a longer blocking that the members between make up for

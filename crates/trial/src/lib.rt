@@ -143,10 +143,26 @@ pub fn tries(
     new_lasts[number] = tested.last;
     new_worsts[number] = tested.worst;
     let first = first_blocked(rows, count, newcomer);
-    if !test_from(rows, keys, count, first, newcomer, &mut new_lasts, &mut new_worsts) {
+    if !test_from(
+        rows,
+        keys,
+        count,
+        first,
+        newcomer,
+        &mut new_lasts,
+        &mut new_worsts,
+    ) {
         return false;
     }
-    if !test_from(rows, keys, count, newcomer + 1, count, &mut new_lasts, &mut new_worsts) {
+    if !test_from(
+        rows,
+        keys,
+        count,
+        newcomer + 1,
+        count,
+        &mut new_lasts,
+        &mut new_worsts,
+    ) {
         return false;
     }
     *lasts = new_lasts;

@@ -79,9 +79,9 @@ returns c =
     let is : getD (a .lasts .now) (c .before .number-in .result) 0 ≡ ofRank (a .keys .now) (a .lasts .now) (g - 1) = ap (λ (x : ℕ). getD (a .lasts .now) x 0) (c .before .number-in .ensures) in
     let last = ofRank (a .keys .now) (a .lasts .now) (g - 1) in
     let unmet : UnmetBelow (askedBy (a .rows .now) g) (blockingIn (a .rows .now) (a .count) (g - 1)) last =
-          subst (λ (x : ℕ). UnmetBelow (askedBy (a .rows .now) x) (blockingIn (a .rows .now) (a .count) (g - 1)) last) e (known .unmet (g - 1) inside) in
+    subst (λ (x : ℕ). UnmetBelow (askedBy (a .rows .now) x) (blockingIn (a .rows .now) (a .count) (g - 1)) last) e (known .unmet (g - 1) inside) in
     let own : costAt (a .rows .now) (a .rank) ≤ blockingIn (a .rows .now) (a .count) (a .rank) + 2 + between (a .rows .now) g (a .rank) =
-          omega (arith, c .before .before .before .if1 .taken, loop .inv .1, start .pre .2) in
+    omega (arith, c .before .before .before .if1 .taken, loop .inv .1, start .pre .2) in
     let open-till = head (a .rows .now) (a .count) (start .pre .1) g (a .rank) last (c .before .before .before .before .loop-test .taken) (loop .inv .0) (start .pre .0) own unmet in
     (omega (arith, is, known .near (g - 1) inside), λ s l. omega (arith, start .pre .2, open-till s (omega (arith, is, l))))
 

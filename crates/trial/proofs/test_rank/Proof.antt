@@ -25,10 +25,12 @@ head-start-requires c κs = search needs
 test-requires : tie.Need-test-requires
 test-requires c κs =
     let start = c .before .before in
-    let a = start .args in
-    (fit-fewer (a .rows .now) (a .count) (a .rank + 1) (omega (arith, start .pre .0)) (start .pre .1),
-    omega (arith, c .before .blocking .ensures, blocking-most (a .rows .now) (a .count) (start .pre .1) (a .rank)),
-    c .head-start .ensures .0, c .head-start .ensures .1)
+    let a = start .args in (
+      fit-fewer (a .rows .now) (a .count) (a .rank + 1) (omega (arith, start .pre .0)) (start .pre .1),
+      omega (arith, c .before .blocking .ensures, blocking-most (a .rows .now) (a .count) (start .pre .1) (a .rank)),
+      c .head-start .ensures .0,
+      c .head-start .ensures .1,
+    )
 
 -- src/lib.rt:64:1
 returns : tie.Need-returns

@@ -66,10 +66,14 @@ test-from-requires c κs =
     let start = c .before .before .before .before .before .before .before .before .before .before .before in
     let a = start .args in
     let tested = c .before .before .before .before .before .before .before .before .before .test-rank in
-    let number = c .before .before .before .before .before .number-in in
-    (c .before .before .first-blocked .ensures .0, omega (arith, start .pre .0), start .pre .1, start .pre .2 .apart,
-    subst (λ (n : ℕ). Bounds (a .rows .now) (a .keys .now) (a .count) (set (a .lasts .now) n (tested .result .last))) (sym (number .ensures)) (bounds-first (a .rows .now) (a .keys .now) (a .count) (a .newcomer) (a .lasts .now) (a .worsts .now) (start .pre .0) (start .pre .2) (tested .result) (tested .ensures)),
-    subst (λ (n : ℕ). length (set (a .worsts .now) n (tested .result .worst)) ≡ mostTasks) (sym (number .ensures)) (places-first (a .rows .now) (a .keys .now) (a .count) (a .newcomer) (a .lasts .now) (a .worsts .now) (start .pre .0) (start .pre .2) (tested .result) (tested .ensures)))
+    let number = c .before .before .before .before .before .number-in in (
+      c .before .before .first-blocked .ensures .0,
+      omega (arith, start .pre .0),
+      start .pre .1,
+      start .pre .2 .apart,
+      subst (λ (n : ℕ). Bounds (a .rows .now) (a .keys .now) (a .count) (set (a .lasts .now) n (tested .result .last))) (sym (number .ensures)) (bounds-first (a .rows .now) (a .keys .now) (a .count) (a .newcomer) (a .lasts .now) (a .worsts .now) (start .pre .0) (start .pre .2) (tested .result) (tested .ensures)),
+      subst (λ (n : ℕ). length (set (a .worsts .now) n (tested .result .worst)) ≡ mostTasks) (sym (number .ensures)) (places-first (a .rows .now) (a .keys .now) (a .count) (a .newcomer) (a .lasts .now) (a .worsts .now) (start .pre .0) (start .pre .2) (tested .result) (tested .ensures)),
+    )
 
 -- src/lib.rt:147:9
 returns-2 : tie.Need-returns-2
@@ -83,7 +87,7 @@ returns-2 c =
     let lasts₁ = higher .last .1 .1 .1 .1 .1 .0 in
     let worsts₁ = higher .last .1 .1 .1 .1 .1 .1 .0 in
     let one : TestedFrom (a .rows .now) (a .keys .now) (a .count) (blocked .result) (a .newcomer) (lasts-first (a .rows .now) (a .keys .now) (a .count) (a .newcomer) (a .lasts .now) (a .worsts .now) (start .pre .0) (start .pre .2) (tested .result) (tested .ensures)) (worsts-first (a .rows .now) (a .keys .now) (a .count) (a .newcomer) (a .lasts .now) (a .worsts .now) (start .pre .0) (start .pre .2) (tested .result) (tested .ensures)) (higher .result) lasts₁ worsts₁ =
-          subst (λ (n : ℕ). TestedFrom (a .rows .now) (a .keys .now) (a .count) (blocked .result) (a .newcomer) (set (a .lasts .now) n (tested .result .last)) (set (a .worsts .now) n (tested .result .worst)) (higher .result) lasts₁ worsts₁) (number .ensures) (higher .ensures) in
+    subst (λ (n : ℕ). TestedFrom (a .rows .now) (a .keys .now) (a .count) (blocked .result) (a .newcomer) (set (a .lasts .now) n (tested .result .last)) (set (a .worsts .now) n (tested .result .worst)) (higher .result) lasts₁ worsts₁) (number .ensures) (higher .ensures) in
     higher-fails (a .rows .now) (a .keys .now) (a .count) (a .newcomer) (a .lasts .now) (a .worsts .now) (start .pre .0) (start .pre .2) (tested .result) (tested .ensures) (blocked .result) (blocked .ensures .0) (blocked .ensures .1) (higher .result) lasts₁ worsts₁ one (not-true _ (c .if2 .taken))
 
 -- src/lib.rt:149:38
@@ -110,7 +114,7 @@ returns-3 c =
     let lasts₁ = higher .last .1 .1 .1 .1 .1 .0 in
     let worsts₁ = higher .last .1 .1 .1 .1 .1 .1 .0 in
     let one : TestedFrom (a .rows .now) (a .keys .now) (a .count) (blocked .result) (a .newcomer) (lasts-first (a .rows .now) (a .keys .now) (a .count) (a .newcomer) (a .lasts .now) (a .worsts .now) (start .pre .0) (start .pre .2) (tested .result) (tested .ensures)) (worsts-first (a .rows .now) (a .keys .now) (a .count) (a .newcomer) (a .lasts .now) (a .worsts .now) (start .pre .0) (start .pre .2) (tested .result) (tested .ensures)) (higher .result) lasts₁ worsts₁ =
-          subst (λ (n : ℕ). TestedFrom (a .rows .now) (a .keys .now) (a .count) (blocked .result) (a .newcomer) (set (a .lasts .now) n (tested .result .last)) (set (a .worsts .now) n (tested .result .worst)) (higher .result) lasts₁ worsts₁) (number .ensures) (higher .ensures) in
+    subst (λ (n : ℕ). TestedFrom (a .rows .now) (a .keys .now) (a .count) (blocked .result) (a .newcomer) (set (a .lasts .now) n (tested .result .last)) (set (a .worsts .now) n (tested .result .worst)) (higher .result) lasts₁ worsts₁) (number .ensures) (higher .ensures) in
     let lower = c .before .test-from2 in
     lower-fails (a .rows .now) (a .keys .now) (a .count) (a .newcomer) (a .lasts .now) (a .worsts .now) (start .pre .0) (start .pre .2) (tested .result) (tested .ensures) (blocked .result) (blocked .ensures .0) (blocked .ensures .1) (higher .result) lasts₁ worsts₁ one (lower .result) (lower .last .1 .1 .1 .1 .1 .0) (lower .last .1 .1 .1 .1 .1 .1 .0) (lower .ensures) (not-true _ (c .if3 .taken))
 
@@ -126,7 +130,7 @@ returns-4 c =
     let lasts₁ = higher .last .1 .1 .1 .1 .1 .0 in
     let worsts₁ = higher .last .1 .1 .1 .1 .1 .1 .0 in
     let one : TestedFrom (a .rows .now) (a .keys .now) (a .count) (blocked .result) (a .newcomer) (lasts-first (a .rows .now) (a .keys .now) (a .count) (a .newcomer) (a .lasts .now) (a .worsts .now) (start .pre .0) (start .pre .2) (tested .result) (tested .ensures)) (worsts-first (a .rows .now) (a .keys .now) (a .count) (a .newcomer) (a .lasts .now) (a .worsts .now) (start .pre .0) (start .pre .2) (tested .result) (tested .ensures)) (higher .result) lasts₁ worsts₁ =
-          subst (λ (n : ℕ). TestedFrom (a .rows .now) (a .keys .now) (a .count) (blocked .result) (a .newcomer) (set (a .lasts .now) n (tested .result .last)) (set (a .worsts .now) n (tested .result .worst)) (higher .result) lasts₁ worsts₁) (number .ensures) (higher .ensures) in
+    subst (λ (n : ℕ). TestedFrom (a .rows .now) (a .keys .now) (a .count) (blocked .result) (a .newcomer) (set (a .lasts .now) n (tested .result .last)) (set (a .worsts .now) n (tested .result .worst)) (higher .result) lasts₁ worsts₁) (number .ensures) (higher .ensures) in
     let lower = c .before .test-from2 in
     all-stand (a .rows .now) (a .keys .now) (a .count) (a .newcomer) (a .lasts .now) (a .worsts .now) (start .pre .0) (start .pre .2) (tested .result) (tested .ensures) (blocked .result) (blocked .ensures .0) (blocked .ensures .1) (higher .result) lasts₁ worsts₁ one (lower .result) (lower .last .1 .1 .1 .1 .1 .0) (lower .last .1 .1 .1 .1 .1 .1 .0) (lower .ensures) (not-false _ (c .before .before .before .before .before .before .before .before .before .before .before .before .before .if1 .left)) (not-false _ (c .before .before .before .before .if2 .left)) (not-false _ (c .if3 .left))
 
