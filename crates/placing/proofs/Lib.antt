@@ -1,1 +1,3 @@
 pub mod Beside
+pub mod Stage
+pub mod Seeking
