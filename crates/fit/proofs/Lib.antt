@@ -1,10 +1,1 @@
-pub mod Turns
-pub mod Put
-pub mod Accepts
-pub mod Newcomer
-pub mod Standing
-pub mod Steps
-pub mod Claims
-pub mod Loop
-pub mod Built
-pub mod Fields
+pub mod Turn

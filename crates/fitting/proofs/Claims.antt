@@ -15,9 +15,10 @@ use Rattle.turns.specs.Turns.{widthOf, homeAt, isUnplaced}
 use Rattle.fitting.specs.Kinds.{Order, Partition, Done, Refused, OfCall, FirstFit, Placing, Outcome}
 use Rattle.fitting.specs.Steps.{nothingPlaced, goingOn, refusing, livingIn, turnsTaken, firstFit}
 use Rattle.fitting.specs.Claims.{volumeAt, Placed, FirstFitPlaces, RefusedIn, FirstFitRefuses, FirstFitEnds}
+use Rattle.fitting.specs.Standing.{Stands}
 use Rattle.fitting.proofs.Put.{living-same, none-waits}
 use Rattle.fitting.proofs.Accepts.{pass-says}
-use Rattle.fitting.proofs.Standing.{Stands, stands-none}
+use Rattle.fitting.proofs.Standing.{stands-none}
 use Rattle.fitting.proofs.Turning.{widths, steps-none, refused-says, Ends, all-placed, one-refused, ends}
 
 -- all tasks are placed

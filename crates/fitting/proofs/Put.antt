@@ -15,6 +15,7 @@ use Rattle.laws.proofs.Sums.{sum-same, sum-in, sum-some}
 use Rattle.laws.proofs.Picked.{sum-with}
 use Rattle.turns.specs.Turns.{unplaced, homeAt, isUnplaced}
 use Rattle.fitting.specs.Steps.{livingIn}
+use Rattle.fitting.specs.Standing.{waiting}
 
 -- what the two questions about partition numbers say
 module _ (homes : List ℕ) where
@@ -52,10 +53,6 @@ module _ (homes : List ℕ) (k : ℕ) where
 pub living-same : (a b : List ℕ) (k l j : ℕ) → homeAt a j ≡ homeAt b j → k ≡ l → livingIn a k j ≡ livingIn b l j
 unfolding livingIn
 living-same a b k l j p q = ap₂ (λ (x y : ℕ). eqb x y) p q
-
--- how many of n tasks wait
-unfoldable pub waiting : List ℕ → ℕ → ℕ
-waiting homes n = sum (λ j. only (isUnplaced homes j) 1) n
 
 pub all-wait : (homes : List ℕ) (n : ℕ) → ((j : ℕ) → j < n → isUnplaced homes j ≡ true) → waiting homes n ≡ n
 unfolding waiting
@@ -109,3 +106,16 @@ module _ (homes : List ℕ) (i k : ℕ) (room : i < length homes) where
     put-waiting =
         sym (sum-same (λ j. only (eqb j i || isUnplaced (set homes i k) j) 1) (λ j. only (isUnplaced homes j) 1) n (λ j l. ap (λ (x : Bool). only x 1) (either j)))
         ∙ sum-with (isUnplaced (set homes i k)) (λ j. 1) i (put-placed open-one) n below
+
+  -- a placed task of another partition keeps its members
+  pub living-kept : isUnplaced homes i ≡ true → (j : ℕ) → livingIn (set homes i k) k j ≡ false → isUnplaced homes j ≡ false
+      → (x : ℕ) → livingIn (set homes i k) (homeAt (set homes i k) j) x ≡ livingIn homes (homeAt homes j) x
+  living-kept waits j out placed-one x =
+      let other : homeAt (set homes i k) j ≡ k → ⊥ = away-says (set homes i k) k j out in
+      let away : j ≡ i → ⊥ = λ e. other (ap (homeAt (set homes i k)) e ∙ put-here) in
+      elim (ℕ-discrete x i) [
+        | yes e ↦
+            says-away (set homes i k) (homeAt (set homes i k) j) x (λ s. other (sym s ∙ ap (homeAt (set homes i k)) e ∙ put-here))
+            ∙ sym (says-away homes (homeAt homes j) x (λ s. placed-says homes j placed-one (sym s ∙ ap (homeAt homes) e ∙ unplaced-says homes i waits)))
+        | no ne ↦ living-same (set homes i k) homes (homeAt (set homes i k) j) (homeAt homes j) x (put-other x ne) (put-other j away)
+      ]

@@ -23,35 +23,9 @@ use Rattle.turns.proofs.Turns.{before-wide}
 use Rattle.fitting.specs.Kinds.{Order, Partition, Placing}
 use Rattle.fitting.specs.Steps.{nothingPlaced, put, openNext, livingIn, accepts}
 use Rattle.fitting.specs.Claims.{opened as openedAt, volumeAt}
-use Rattle.fitting.proofs.Put.{unplaced-says, placed-says, living-says, says-living, away-says, says-away, living-same, waiting, all-wait, put-here, put-other, put-placed, put-unplaced, put-waiting}
+use Rattle.fitting.specs.Standing.{waiting, Numbered, Laid, Wide, Stands}
+use Rattle.fitting.proofs.Put.{unplaced-says, placed-says, living-says, says-living, away-says, says-away, living-same, all-wait, put-here, put-other, put-placed, put-unplaced, put-waiting, living-kept}
 use Rattle.fitting.proofs.Accepts.{members-say}
-
--- the partition numbers of n tasks, of which so many wait
-pub record Numbered (o : Order) (homes : List ℕ) (opened placed : ℕ) : Type 0 where
-  pub places : length homes ≡ mostTasks
-  pub count : waiting homes (o .tasks) + placed ≡ (o .tasks)
-  pub few : opened ≤ placed
-  pub in-one : (j : ℕ) → j < o .tasks → isUnplaced homes j ≡ false → homeAt homes j < opened
-  pub passes : (j : ℕ) → j < o .tasks → isUnplaced homes j ≡ false → doesPass (verdict o (livingIn homes (homeAt homes j)) j) ≡ true
-
--- the opened partitions, on the lowest processors
-pub record Laid (M : ℕ) (places : List Partition) (opened used : ℕ) : Type 0 where
-  pub long : length places ≡ mostPartitions
-  pub volume-least : (k : ℕ) → k < opened → 1 ≤ volumeAt places k
-  pub lowest : (k : ℕ) → k < opened → openedAt places k .first ≡ sum (volumeAt places) k
-  pub used-by : used ≡ sum (volumeAt places) opened
-  pub inside : used ≤ M
-  pub zero-past : (k : ℕ) → opened ≤ k → getD places k zeroPartition ≡ zeroPartition
-
--- each partition is wide enough for those in it, and for those that wait
-pub record Wide (o : Order) (homes : List ℕ) (places : List Partition) (opened : ℕ) : Type 0 where
-  pub for-members : (j : ℕ) → j < o .tasks → isUnplaced homes j ≡ false → widthOf o j ≤ volumeAt places (homeAt homes j)
-  pub for-others : (j : ℕ) → j < o .tasks → isUnplaced homes j ≡ true → (k : ℕ) → k < opened → widthOf o j ≤ volumeAt places k
-
-pub record Stands (o : Order) (placed : ℕ) (s : Placing) : Type 0 where
-  pub numbered : Numbered o (s .homes) (s .opened) placed
-  pub laid : Laid (o .processors) (s .places) (s .opened) (s .used)
-  pub wide : Wide o (s .homes) (s .places) (s .opened)
 
 module _ (o : Order) (limits : WithinLimits o) (homes : List ℕ) (opened placed : ℕ) (was : Numbered o homes opened placed) (early : placed < o .tasks) (i : ℕ) (next : IsNext o homes (o .tasks) i) where
   pub room : i < length homes
@@ -63,20 +37,6 @@ module _ (o : Order) (limits : WithinLimits o) (homes : List ℕ) (opened placed
     small : k < unplaced
     small = omega (arith, limits .tasks .1)
 
-    -- a task of another partition keeps its members
-    pub apart-same : (j : ℕ) → j < o .tasks → livingIn (set homes i k) k j ≡ false → isUnplaced homes j ≡ false
-        → (x : ℕ) → x < o .tasks → livingIn (set homes i k) (homeAt (set homes i k) j) x ≡ livingIn homes (homeAt homes j) x
-    apart-same j l out placed-one x lx =
-        let other : homeAt (set homes i k) j ≡ k → ⊥ = away-says (set homes i k) k j out in
-        let away : j ≡ i → ⊥ = λ e. other (ap (homeAt (set homes i k)) e ∙ put-here homes i k room) in
-        let mine = put-other homes i k room j away in
-        elim (ℕ-discrete x i) [
-          | yes e ↦
-              says-away (set homes i k) (homeAt (set homes i k) j) x (λ s. other (sym s ∙ ap (homeAt (set homes i k)) e ∙ put-here homes i k room))
-              ∙ sym (says-away homes (homeAt homes j) x (λ s. placed-says homes j placed-one (sym s ∙ ap (homeAt homes) e ∙ unplaced-says homes i (next .waiting))))
-          | no ne ↦ living-same (set homes i k) homes (homeAt (set homes i k) j) (homeAt homes j) x (put-other homes i k room x ne) mine
-        ]
-
     still-passes : (j : ℕ) → j < o .tasks → isUnplaced (set homes i k) j ≡ false → (b : Bool) → livingIn (set homes i k) k j ≡ b
         → doesPass (verdict o (livingIn (set homes i k) (homeAt (set homes i k) j)) j) ≡ true
     still-passes j l p true e =
@@ -84,7 +44,7 @@ module _ (o : Order) (limits : WithinLimits o) (homes : List ℕ) (opened placed
     still-passes j l p false e =
         let away : j ≡ i → ⊥ = λ s. away-says (set homes i k) k j e (ap (homeAt (set homes i k)) s ∙ put-here homes i k room) in
         let before : isUnplaced homes j ≡ false = sym (put-unplaced homes i k room j away) ∙ p in
-        ap doesPass (verdict-same o (livingIn (set homes i k) (homeAt (set homes i k) j)) (livingIn homes (homeAt homes j)) j (apart-same j l e before)) ∙ was .passes j l before
+        ap doesPass (verdict-same o (livingIn (set homes i k) (homeAt (set homes i k) j)) (livingIn homes (homeAt homes j)) j (λ x lx. living-kept homes i k room (next .waiting) j e before x)) ∙ was .passes j l before
 
     pub numbered-put : Numbered o (set homes i k) more (placed + 1)
     numbered-put =

@@ -16,9 +16,10 @@ use Rattle.turns.proofs.Turns.{next-is, is-next, none-next}
 use Rattle.fitting.specs.Kinds.{Order, Answer, Done, Refused, Refusal, OfCall, FirstFit, Found, At, Nothing, Placing, Outcome}
 use Rattle.fitting.specs.Steps.{nothingPlaced, put, openNext, goingOn, refusing, accepts, lowestAccepting, opening, settled, afterTurn, turnTaken, unlessRefused, turnsTaken, firstFit}
 use Rattle.fitting.specs.Claims.{RefusedIn}
+use Rattle.fitting.specs.Standing.{Stands}
 use Rattle.fitting.proofs.Put.{one-waits}
 use Rattle.fitting.proofs.Accepts.{lowest-says}
-use Rattle.fitting.proofs.Standing.{Stands, stands-accepted, stands-opened}
+use Rattle.fitting.proofs.Standing.{stands-accepted, stands-opened}
 
 pub on-done : (outcome : Outcome) (next : Placing → Outcome) (count : ℕ) → outcome .answer ≡ Done count → unlessRefused outcome next ≡ next (outcome .placing)
 unfolding unlessRefused

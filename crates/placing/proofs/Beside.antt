@@ -37,7 +37,7 @@ use Rattle.roster.proofs.Tied.{rows-fit, asked-with, blocking-is, verdict-is}
 use Rattle.roster.proofs.Lining.{number-of-key, lined-same, one-place, ranked-in, lined-with, put-here as key-here, lined-part}
 use Rattle.turns.specs.Turns.{unplaced, homeAt, isUnplaced}
 use Rattle.fitting.specs.Steps.{livingIn, membersPass, accepts}
-use Rattle.fitting.proofs.Put.{unplaced-says, placed-says, living-says, says-living, away-says, says-away, living-same, put-here, put-other, put-placed, put-unplaced}
+use Rattle.fitting.proofs.Put.{unplaced-says, living-says, says-living, away-says, says-away, living-same, put-here, put-other, put-unplaced, living-kept}
 use Rattle.fitting.proofs.Accepts.{members-say, say-members}
 use Rattle.placing.specs.Known.{OpenUntil, Known, InLine}
 
@@ -293,14 +293,7 @@ module _ (o : Order) (limits : WithinLimits o) (homes : List ℕ) (places : leng
         -- and its members are the same
         same-members : (j : ℕ) → livingIn homes′ k j ≡ false → isUnplaced homes j ≡ false → (x : ℕ) → x < o .tasks
             → livingIn homes′ (homeAt homes′ j) x ≡ livingIn homes (homeAt homes j) x
-        same-members j out placed-one x l =
-            let away = away-from j out in
-            elim (ℕ-discrete x task) [
-              | yes e ↦
-                  says-away homes′ (homeAt homes′ j) x (λ s. away-says homes′ k j out (sym s ∙ ap (homeAt homes′) e ∙ here))
-                  ∙ sym (says-away homes (homeAt homes j) x (λ s. placed-says homes j placed-one (sym s ∙ ap (homeAt homes) e ∙ unplaced-says homes task waits)))
-              | no ne ↦ living-same homes′ homes (homeAt homes′ j) (homeAt homes j) x (other x ne) (other j away)
-            ]
+        same-members j out placed-one x l = living-kept homes task k room waits j out placed-one x
 
         waiting-now : (j : ℕ) → j < o .tasks → isUnplaced homes′ j ≡ true → livingIn homes′ k j ≡ false
         waiting-now j l u = says-away homes′ k j (λ e. omega (arith, unplaced-says homes′ j u, e))

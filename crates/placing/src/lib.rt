@@ -1,19 +1,10 @@
 // First fit's turns: each task is tried beside the members of each partition, and seated in the line of keys.
-use asked::COST;
 use asked::DEADLINE;
 use asked::ROWS;
-use fitting::Outcome;
-use fitting::Placing;
-use model::Answer;
-use model::CallCause;
 use model::Order;
-use model::Refusal;
 use search::Found;
 ghost use mathlib.Core.Path.{_≡_};
 ghost use Prim.Native.Nat.{ℕ, _≤_, _<_};
-ghost use lib.ListN.{length};
-ghost use Rattle.model.specs.Limits.{mostTasks};
-ghost use Rattle.model.specs.Rules.{WithinLimits};
 ghost use Rattle.placing.specs.Known.{Trying, TryingIn, TriedIn, Lowest};
 
 // Whether a partition takes a task, and how many members it has without it.
@@ -45,7 +36,7 @@ fn try_partition(
 }
 
 // The lowest-numbered of the opened partitions that takes the task.
-fn lowest_accepting(
+pub fn lowest_accepting(
     table: &[u32; ROWS],
     keys: &[u32; Order::MOST_TASKS],
     placed: usize,
