@@ -2,3 +2,4 @@ pub mod Turn
 pub mod Loop
 pub mod Writing
 pub mod Built
+pub mod Fields
