@@ -6,7 +6,7 @@ use model::Release;
 use model::ScriptCause;
 ghost use mathlib.Core.Path.{_≡_};
 ghost use Prim.Native.Nat.{_+_, _*_, _≤_, _<_};
-ghost use lib.ListN.{length, getD};
+ghost use lib.ListN.{length};
 ghost use Rattle.bits.specs.Field.{field};
 ghost use Rattle.model.specs.Limits.{mostRecords};
 ghost use Rattle.model.specs.Layouts.{scriptLength};
@@ -20,11 +20,10 @@ pub struct ReleaseTaken {
     pub spare: u64,
 }
 
-fn byte(script: &[u8], at: usize) -> u64
-    requires { ⌜ at < length (now script) ⌝ }
-    ensures { λ r. ⌜ (r ≡ getD (now (script .entry)) at 0) × (r < 256) ⌝ }
+fn byte(x: u8) -> u64
+    ensures { λ r. ⌜ (r ≡ x) × (r < 256) ⌝ }
 {
-    script[at] as u64
+    x as u64
 }
 
 // Three bytes as one number: no test of the end, so that a record costs two reads.
@@ -32,7 +31,7 @@ fn three_bytes(script: &[u8], from: usize) -> u64
     requires { ⌜ from + 3 ≤ length (now script) ⌝ }
     ensures { λ r. ⌜ (r ≡ field (now (script .entry)) (8 * from) 24) × (r < 16_777_216) ⌝ }
 {
-    byte(script, from) * 65_536 + byte(script, from + 1) * 256 + byte(script, from + 2)
+    byte(script[from]) * 65_536 + byte(script[from + 1]) * 256 + byte(script[from + 2])
 }
 
 // tick 20, task 5, length 20, spare 3
@@ -50,7 +49,14 @@ fn take_release(script: &[u8], i: usize) -> ReleaseTaken
 }
 
 // 41 to 45 of a record, in turn.
-fn judge_release(taken: ReleaseTaken, tasks: u32, most: u32, least: u32, from: u32, i: u16) -> Answer
+fn judge_release(
+    taken: ReleaseTaken,
+    tasks: u32,
+    most: u32,
+    least: u32,
+    from: u32,
+    i: u16,
+) -> Answer
     ensures { λ r. ⌜ JudgesRelease taken tasks most least from i r ⌝ }
 {
     if taken.spare != 0 {

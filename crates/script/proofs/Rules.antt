@@ -1,0 +1,89 @@
+-- Laws of 40 to 46 as the judge meets them: its branches, and the scan of the records.
+use mathlib.Core.Path.{_≡_, refl, sym, ap, _∙_}
+use mathlib.Core.Bool.{Bool, true, false}
+use mathlib.Core.List.{List}
+use Prim.Native.Nat.{ℕ, _+_, _*_, _/_, _%_, _≤_, _<_}
+use native.Mathlib.Omega.{arith}
+use lib.Dec.{leb, ltb, eqb}
+use lib.ListN.{length}
+use borrow.Author.Tests.{eq-eqb, ne-eqb, le-leb, lt-leb, lt-ltb, le-ltb}
+use Rattle.laws.specs.Choice.{within}
+use Rattle.laws.specs.Joined.{joined}
+use Rattle.model.specs.declared.order.Order.{Order}
+use Rattle.model.specs.declared.answer.Answer.the-variants.{Done, Refused}
+use Rattle.model.specs.declared.answer.Refusal.the-variants.{OfScript}
+use Rattle.model.specs.declared.answer.ScriptCause.the-variants.{ScriptLength, RecordSpare, RecordTask, RecordOrder, JobLength, ReleaseGap, FinishPlaces}
+use Rattle.model.specs.Rules.{firstBroken}
+use Rattle.machine.specs.Pattern.{runOf}
+use Rattle.script.specs.declared.ReleaseTaken.{ReleaseTaken}
+use Rattle.script.specs.Script.{releaseAt, spareAt, recordsIn, afterPrevious, earliest, recordRules, scriptRules}
+use Rattle.script.specs.Judged.{ToldOf}
+use Rattle.script.proofs.Keys.{ordered-by-key, task-in-key, tick-in-key}
+
+-- 40 and 46
+module _ (count : ℕ) (o : Order) (s : List ℕ) (places : ℕ) where
+  pub part-of-record : (length s % 6 ≡ 0 → ⊥) → firstBroken count (scriptRules o s places) ≡ Refused (OfScript ScriptLength)
+  unfolding scriptRules firstBroken
+  part-of-record ne = rw (ne-eqb (length s % 6) 0 ne)
+
+  pub too-long : length s % 6 ≡ 0 → 6144 < length s → firstBroken count (scriptRules o s places) ≡ Refused (OfScript ScriptLength)
+  unfolding scriptRules firstBroken
+  too-long e l = rw (eq-eqb (length s % 6) 0 e, lt-leb (length s) 6144 l)
+
+  pub too-few-places : length s % 6 ≡ 0 → length s ≤ 6144 → places < recordsIn s → firstBroken count (scriptRules o s places) ≡ Refused (OfScript FinishPlaces)
+  unfolding scriptRules firstBroken
+  too-few-places e l p = rw (eq-eqb (length s % 6) 0 e, le-leb (length s) 6144 l, lt-leb (recordsIn s) places p)
+
+  pub on-to-records : length s % 6 ≡ 0 → length s ≤ 6144 → recordsIn s ≤ places
+      → firstBroken count (scriptRules o s places) ≡ firstBroken count (joined (recordRules o s) (recordsIn s))
+  unfolding scriptRules firstBroken
+  on-to-records e l p = rw (eq-eqb (length s % 6) 0 e, le-leb (length s) 6144 l, le-leb (recordsIn s) places p)
+
+-- 41 to 45 of a record, as its judge was told of it
+module _ (o : Order) (s : List ℕ) (i : ℕ) (taken : ReleaseTaken) (tasks most least from : ℕ) (told : ToldOf o s i taken tasks most least from) where
+  spare-test : eqb (spareAt s i) 0 ≡ eqb (taken .spare) 0
+  spare-test = ap (λ (x : ℕ). eqb x 0) (sym (told .takes .spare-is))
+
+  task-is : taken .key % 32 ≡ releaseAt s i .task
+  task-is = ap (_% 32) (told .takes .key-is) ∙ task-in-key s i
+
+  task-test : ltb (releaseAt s i .task) (o .tasks) ≡ ltb (taken .key % 32) tasks
+  task-test = rw (task-is, told .tasks-are)
+
+  order-test : afterPrevious (releaseAt s) i ≡ leb least (taken .key)
+  order-test = ordered-by-key s i ∙ rw (told .least-is, told .takes .key-is)
+
+  gap-test : leb (earliest o (releaseAt s) (releaseAt s i .task) i) (releaseAt s i .tick) ≡ leb from (taken .key / 32)
+  gap-test = rw (told .from-is, told .takes .key-is, tick-in-key s i)
+
+  pub spare-set : (taken .spare ≡ 0 → ⊥) → firstBroken 0 (recordRules o s i) ≡ Refused (OfScript (RecordSpare i))
+  unfolding recordRules firstBroken
+  spare-set ne = rw (spare-test, ne-eqb (taken .spare) 0 ne)
+
+  pub no-such-task : taken .spare ≡ 0 → tasks ≤ taken .key % 32 → firstBroken 0 (recordRules o s i) ≡ Refused (OfScript (RecordTask i))
+  unfolding recordRules firstBroken
+  no-such-task e l = rw (spare-test, eq-eqb (taken .spare) 0 e, task-test, le-ltb (taken .key % 32) tasks l)
+
+  pub out-of-order : taken .spare ≡ 0 → taken .key % 32 < tasks → taken .key < least → firstBroken 0 (recordRules o s i) ≡ Refused (OfScript (RecordOrder i))
+  unfolding recordRules firstBroken
+  out-of-order e k l = rw (spare-test, eq-eqb (taken .spare) 0 e, task-test, lt-ltb (taken .key % 32) tasks k, order-test, lt-leb least (taken .key) l)
+
+  pub duration-test : within 1 most (taken .duration) ≡ within 1 (runOf o (releaseAt s i .task)) (releaseAt s i .duration)
+  duration-test = rw (told .most-is, told .takes .duration-is)
+
+  pub wrong-duration : taken .spare ≡ 0 → taken .key % 32 < tasks → least ≤ taken .key → within 1 most (taken .duration) ≡ false
+      → firstBroken 0 (recordRules o s i) ≡ Refused (OfScript (JobLength i))
+  unfolding recordRules firstBroken
+  wrong-duration e k l d = rw (spare-test, eq-eqb (taken .spare) 0 e, task-test, lt-ltb (taken .key % 32) tasks k, order-test, le-leb least (taken .key) l, ← duration-test, d)
+
+  pub too-close : taken .spare ≡ 0 → taken .key % 32 < tasks → least ≤ taken .key → within 1 most (taken .duration) ≡ true → taken .key / 32 < from
+      → firstBroken 0 (recordRules o s i) ≡ Refused (OfScript (ReleaseGap i))
+  unfolding recordRules firstBroken
+  too-close e k l d g =
+      rw (spare-test, eq-eqb (taken .spare) 0 e, task-test, lt-ltb (taken .key % 32) tasks k, order-test, le-leb least (taken .key) l, ← duration-test, d, gap-test, lt-leb from (taken .key / 32) g)
+
+  pub record-right : taken .spare ≡ 0 → taken .key % 32 < tasks → least ≤ taken .key → within 1 most (taken .duration) ≡ true → from ≤ taken .key / 32
+      → firstBroken 0 (recordRules o s i) ≡ Done 0
+  unfolding recordRules firstBroken
+  record-right e k l d g =
+      rw (spare-test, eq-eqb (taken .spare) 0 e, task-test, lt-ltb (taken .key % 32) tasks k, order-test, le-leb least (taken .key) l, ← duration-test, d, gap-test, le-leb from (taken .key / 32) g)
