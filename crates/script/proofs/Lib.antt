@@ -4,3 +4,6 @@ pub mod Rules
 pub mod Numbers
 pub mod Scan
 pub mod Held
+pub mod Tells
+pub mod Accepted
+pub mod Bytes

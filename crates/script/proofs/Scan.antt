@@ -70,9 +70,9 @@ module _ (o : Order) (s : List ℕ) where
           earliest-kept = rw (task-is, tick-is) (kept-more o (releaseAt s) i (task-small s i) (below .earliest-kept));
           least-is = ap (_+ 1) (takes .key-is) ∙ sym (least-more (releaseAt s) i);
           held =
-            record {
-              sizes = (simp length-set (below .held .sizes .0), simp length-set (below .held .sizes .1));
-              keys-are = set-next (λ x. releaseKey (releaseAt s x)) keys i (taken .key) (omega (arith, below .held .sizes .0)) (takes .key-is) (below .held .keys-are);
-              durations-are = set-next (λ x. releaseAt s x .duration) durations i (taken .duration) (omega (arith, below .held .sizes .1)) (takes .duration-is) (below .held .durations-are);
-            };
+              record {
+                sizes = (simp length-set (below .held .sizes .0), simp length-set (below .held .sizes .1));
+                keys-are = set-next (λ x. releaseKey (releaseAt s x)) keys i (taken .key) (omega (arith, below .held .sizes .0)) (takes .key-is) (below .held .keys-are);
+                durations-are = set-next (λ x. releaseAt s x .duration) durations i (taken .duration) (omega (arith, below .held .sizes .1)) (takes .duration-is) (below .held .durations-are);
+              };
         }

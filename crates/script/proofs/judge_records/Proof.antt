@@ -125,7 +125,7 @@ loop-again c =
     let s = now (j .before .before .before .before .before .before .before .args .script) in (
       search needs,
       λ processors. judged-more (O r processors) s (l .i) (l .earliest) (l .least) (l .keys) (l .durations) (l .inv .1 processors) (r .take-release .result) (r .take-release .ensures) (omega arith)
-      (sym (judged-so j processors) ∙ c .before .enum-told .given .1),
+          (sym (judged-so j processors) ∙ c .before .enum-told .given .1),
     )
 
 cast-t33 : tie.Need-cast-t33 Inv-loop μ-loop
