@@ -13,7 +13,7 @@ use Rattle.model.proofs.Rules.{kept-at, kept-all}
 use Rattle.demand.specs.Releases.{periodOf}
 use Rattle.machine.specs.Pattern.{runOf, recordOf, Before, LegalScript}
 use Rattle.machine.proofs.Script.{rise-by-neighbours}
-use Rattle.script.specs.Script.{releaseAt, spareAt, recordsIn, scriptOf, inOrder, earliest, farEnough, recordRules, scriptRules, WholeRecords}
+use Rattle.script.specs.Script.{releaseAt, spareAt, recordsIn, scriptOf, inOrder, earliest, farEnough, releaseRules, scriptRules, WholeRecords}
 use Rattle.script.specs.Claims.{ScriptAccepted, RulesOfScripts}
 use Rattle.script.proofs.Records.{script-length, script-record, Far, far-earliest, earliest-far}
 use Rattle.script.proofs.Tells.{gap-tells}
@@ -27,12 +27,12 @@ record RecordRight (o : Order) (s : List ℕ) (i : ℕ) : Type 0 where
   pub gap : farEnough o (releaseAt s) i .says
 
 module _ (o : Order) (s : List ℕ) where
-  record-right : (i : ℕ) → AllKept (recordRules o s i) → RecordRight o s i
-  unfolding recordRules AllKept
+  record-right : (i : ℕ) → AllKept (releaseRules o s i) → RecordRight o s i
+  unfolding releaseRules AllKept
   record-right i all = record { spare = all .0; known = all .1 .0; ordered = all .1 .1 .0; lasts = all .1 .1 .1 .0; gap = all .1 .1 .1 .1 .0 }
 
-  right-record : (i : ℕ) → RecordRight o s i → AllKept (recordRules o s i)
-  unfolding recordRules AllKept
+  right-record : (i : ℕ) → RecordRight o s i → AllKept (releaseRules o s i)
+  unfolding releaseRules AllKept
   right-record i r = (r .spare, (r .known, (r .ordered, (r .lasts, (r .gap, tt)))))
 
   -- 45 as the test has it
@@ -100,13 +100,13 @@ module _ (o : Order) (s : List ℕ) where
   pub rules-accepted : (places : ℕ) → AllKept (scriptRules o s places) → ScriptAccepted o s places
   unfolding scriptRules AllKept
   rules-accepted places all =
-      let each : (i : ℕ) → i < recordsIn s → RecordRight o s i = λ i l. record-right i (kept-at (recordRules o s) (recordsIn s) i l (all .1 .1)) in
+      let each : (i : ℕ) → i < recordsIn s → RecordRight o s i = λ i l. record-right i (kept-at (releaseRules o s) (recordsIn s) i l (all .1 .1)) in
       record { whole = all .0 .whole; few = all .0 .few; room = all .1 .0; spares = λ i l. each i l .spare; legal = right-legal each }
 
   pub accepted-rules : (places : ℕ) → ScriptAccepted o s places → AllKept (scriptRules o s places)
   unfolding scriptRules AllKept
   accepted-rules places a =
-      (record { whole = a .whole; few = a .few }, (a .room, kept-all (recordRules o s) (recordsIn s) (λ i l. right-record i (legal-right (a .legal) (a .spares) i l))))
+      (record { whole = a .whole; few = a .few }, (a .room, kept-all (releaseRules o s) (recordsIn s) (λ i l. right-record i (legal-right (a .legal) (a .spares) i l))))
 
 pub rules-of-scripts : RulesOfScripts
 rules-of-scripts o s places = (rules-accepted o s places, accepted-rules o s places)

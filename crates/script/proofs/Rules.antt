@@ -16,7 +16,7 @@ use Rattle.model.specs.declared.answer.ScriptCause.the-variants.{ScriptLength, 
 use Rattle.model.specs.Rules.{firstBroken}
 use Rattle.machine.specs.Pattern.{runOf}
 use Rattle.script.specs.declared.ReleaseTaken.{ReleaseTaken}
-use Rattle.script.specs.Script.{releaseAt, spareAt, recordsIn, afterPrevious, earliest, recordRules, scriptRules}
+use Rattle.script.specs.Script.{releaseAt, spareAt, recordsIn, afterPrevious, earliest, releaseRules, scriptRules}
 use Rattle.script.specs.Judged.{ToldOf}
 use Rattle.script.proofs.Keys.{ordered-by-key, task-in-key, tick-in-key}
 
@@ -35,7 +35,7 @@ module _ (count : ℕ) (o : Order) (s : List ℕ) (places : ℕ) where
   too-few-places e l p = rw (eq-eqb (length s % 6) 0 e, le-leb (length s) 6144 l, lt-leb (recordsIn s) places p)
 
   pub on-to-records : length s % 6 ≡ 0 → length s ≤ 6144 → recordsIn s ≤ places
-      → firstBroken count (scriptRules o s places) ≡ firstBroken count (joined (recordRules o s) (recordsIn s))
+      → firstBroken count (scriptRules o s places) ≡ firstBroken count (joined (releaseRules o s) (recordsIn s))
   unfolding scriptRules firstBroken
   on-to-records e l p = rw (eq-eqb (length s % 6) 0 e, le-leb (length s) 6144 l, le-leb (recordsIn s) places p)
 
@@ -56,34 +56,34 @@ module _ (o : Order) (s : List ℕ) (i : ℕ) (taken : ReleaseTaken) (tasks most
   gap-test : leb (earliest o (releaseAt s) (releaseAt s i .task) i) (releaseAt s i .tick) ≡ leb from (taken .key / 32)
   gap-test = rw (told .from-is, told .takes .key-is, tick-in-key s i)
 
-  pub spare-set : (taken .spare ≡ 0 → ⊥) → firstBroken 0 (recordRules o s i) ≡ Refused (OfScript (RecordSpare i))
-  unfolding recordRules firstBroken
+  pub spare-set : (taken .spare ≡ 0 → ⊥) → firstBroken 0 (releaseRules o s i) ≡ Refused (OfScript (RecordSpare i))
+  unfolding releaseRules firstBroken
   spare-set ne = rw (spare-test, ne-eqb (taken .spare) 0 ne)
 
-  pub no-such-task : taken .spare ≡ 0 → tasks ≤ taken .key % 32 → firstBroken 0 (recordRules o s i) ≡ Refused (OfScript (RecordTask i))
-  unfolding recordRules firstBroken
+  pub no-such-task : taken .spare ≡ 0 → tasks ≤ taken .key % 32 → firstBroken 0 (releaseRules o s i) ≡ Refused (OfScript (RecordTask i))
+  unfolding releaseRules firstBroken
   no-such-task e l = rw (spare-test, eq-eqb (taken .spare) 0 e, task-test, le-ltb (taken .key % 32) tasks l)
 
-  pub out-of-order : taken .spare ≡ 0 → taken .key % 32 < tasks → taken .key < least → firstBroken 0 (recordRules o s i) ≡ Refused (OfScript (RecordOrder i))
-  unfolding recordRules firstBroken
+  pub out-of-order : taken .spare ≡ 0 → taken .key % 32 < tasks → taken .key < least → firstBroken 0 (releaseRules o s i) ≡ Refused (OfScript (RecordOrder i))
+  unfolding releaseRules firstBroken
   out-of-order e k l = rw (spare-test, eq-eqb (taken .spare) 0 e, task-test, lt-ltb (taken .key % 32) tasks k, order-test, lt-leb least (taken .key) l)
 
   pub duration-test : within 1 most (taken .duration) ≡ within 1 (runOf o (releaseAt s i .task)) (releaseAt s i .duration)
   duration-test = rw (told .most-is, told .takes .duration-is)
 
   pub wrong-duration : taken .spare ≡ 0 → taken .key % 32 < tasks → least ≤ taken .key → within 1 most (taken .duration) ≡ false
-      → firstBroken 0 (recordRules o s i) ≡ Refused (OfScript (JobLength i))
-  unfolding recordRules firstBroken
+      → firstBroken 0 (releaseRules o s i) ≡ Refused (OfScript (JobLength i))
+  unfolding releaseRules firstBroken
   wrong-duration e k l d = rw (spare-test, eq-eqb (taken .spare) 0 e, task-test, lt-ltb (taken .key % 32) tasks k, order-test, le-leb least (taken .key) l, ← duration-test, d)
 
   pub too-close : taken .spare ≡ 0 → taken .key % 32 < tasks → least ≤ taken .key → within 1 most (taken .duration) ≡ true → taken .key / 32 < from
-      → firstBroken 0 (recordRules o s i) ≡ Refused (OfScript (ReleaseGap i))
-  unfolding recordRules firstBroken
+      → firstBroken 0 (releaseRules o s i) ≡ Refused (OfScript (ReleaseGap i))
+  unfolding releaseRules firstBroken
   too-close e k l d g =
       rw (spare-test, eq-eqb (taken .spare) 0 e, task-test, lt-ltb (taken .key % 32) tasks k, order-test, le-leb least (taken .key) l, ← duration-test, d, gap-test, lt-leb from (taken .key / 32) g)
 
   pub record-right : taken .spare ≡ 0 → taken .key % 32 < tasks → least ≤ taken .key → within 1 most (taken .duration) ≡ true → from ≤ taken .key / 32
-      → firstBroken 0 (recordRules o s i) ≡ Done 0
-  unfolding recordRules firstBroken
+      → firstBroken 0 (releaseRules o s i) ≡ Done 0
+  unfolding releaseRules firstBroken
   record-right e k l d g =
       rw (spare-test, eq-eqb (taken .spare) 0 e, task-test, lt-ltb (taken .key % 32) tasks k, order-test, le-leb least (taken .key) l, ← duration-test, d, gap-test, le-leb from (taken .key / 32) g)

@@ -16,7 +16,7 @@ use Rattle.model.proofs.Rules.{AllPass, done-pass, scan-none, scan-more}
 use Rattle.demand.specs.Releases.{periodOf}
 use Rattle.machine.specs.Pattern.{runOf}
 use Rattle.script.specs.declared.ReleaseTaken.{ReleaseTaken}
-use Rattle.script.specs.Script.{releaseAt, recordRules}
+use Rattle.script.specs.Script.{releaseAt, releaseRules}
 use Rattle.script.specs.Judged.{TakesRelease, ToldOf, HeldBelow, releaseKey, leastKey}
 use Rattle.script.proofs.Records.{task-small, EarliestKept, kept-none, kept-more}
 use Rattle.script.proofs.Keys.{task-in-key, tick-in-key, least-none, least-more}
@@ -30,7 +30,7 @@ set-next f xs i x below is earlier j l =
     (eq-or-lt-of-le {n = j} {m = i} (omega arith))
 
 pub record JudgedBelow (o : Order) (s : List ℕ) (i : ℕ) (kept : List ℕ) (least : ℕ) (keys durations : List ℕ) : Type 0 where
-  pub passes : AllPass (joined (recordRules o s) i)
+  pub passes : AllPass (joined (releaseRules o s) i)
   pub earliest-kept : EarliestKept o (releaseAt s) kept i
   pub least-is : least ≡ leastKey (releaseAt s) i
   pub held : HeldBelow s i keys durations
@@ -39,7 +39,7 @@ module _ (o : Order) (s : List ℕ) where
   pub judged-none : (keys durations : List ℕ) → length keys ≡ mostRecords → length durations ≡ mostRecords → JudgedBelow o s 0 (replicate mostTasks 0) 0 keys durations
   judged-none keys durations k d =
       record {
-        passes = scan-none (recordRules o s);
+        passes = scan-none (releaseRules o s);
         earliest-kept = kept-none o (releaseAt s);
         least-is = sym (least-none (releaseAt s));
         held = record { sizes = (k, d); keys-are = λ x l. absurd (omega arith); durations-are = λ x l. absurd (omega arith) };
@@ -62,11 +62,11 @@ module _ (o : Order) (s : List ℕ) where
           from-is = ap (λ (k : ℕ). getD kept k 0) task-is ∙ below .earliest-kept .each (releaseAt s i .task) (task-small s i);
         }
 
-    pub judged-more : {count : ℕ} → i < mostRecords → firstBroken 0 (recordRules o s i) ≡ Done count
+    pub judged-more : {count : ℕ} → i < mostRecords → firstBroken 0 (releaseRules o s i) ≡ Done count
         → JudgedBelow o s (i + 1) (set kept (taken .key % 32) (taken .key / 32 + periodOf o (taken .key % 32))) (taken .key + 1) (set keys i (taken .key)) (set durations i (taken .duration))
     judged-more few right =
         record {
-          passes = scan-more (recordRules o s) i (below .passes) (done-pass 0 (recordRules o s i) right);
+          passes = scan-more (releaseRules o s) i (below .passes) (done-pass 0 (releaseRules o s i) right);
           earliest-kept = rw (task-is, tick-is) (kept-more o (releaseAt s) i (task-small s i) (below .earliest-kept));
           least-is = ap (_+ 1) (takes .key-is) ∙ sym (least-more (releaseAt s) i);
           held =

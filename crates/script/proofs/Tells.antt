@@ -19,7 +19,7 @@ use Rattle.model.specs.Rules.{Tells, TestsTell, OneRightAnswer}
 use Rattle.model.proofs.Rules.{tell-all, equal-tells, at-most-tells, in-range-tells, one-right-answer}
 use Rattle.demand.specs.Releases.{periodOf}
 use Rattle.machine.specs.Pattern.{runOf, Before}
-use Rattle.script.specs.Script.{releaseAt, spareAt, recordsIn, WholeRecords, wholeRecords, afterPrevious, inOrder, LastEarlier, earliest, farEnough, recordRules, scriptRules}
+use Rattle.script.specs.Script.{releaseAt, spareAt, recordsIn, WholeRecords, wholeRecords, afterPrevious, inOrder, LastEarlier, earliest, farEnough, releaseRules, scriptRules}
 use Rattle.script.specs.Claims.{OneScriptAnswer}
 use Rattle.script.proofs.Keys.{before-true, true-before}
 
@@ -91,8 +91,8 @@ module _ (o : Order) (f : ℕ → Release) (i : ℕ) where
   gap-tells = let found = last-or-none o f (f i .task) i in (gap-far found, far-gap found)
 
 module _ (o : Order) (s : List ℕ) where
-  record-tells : (i : ℕ) → TestsTell (recordRules o s i)
-  unfolding TestsTell recordRules
+  record-tells : (i : ℕ) → TestsTell (releaseRules o s i)
+  unfolding TestsTell releaseRules
   record-tells i =
       let r = releaseAt s i in (
         equal-tells (spareAt s i) 0,
@@ -111,7 +111,7 @@ module _ (o : Order) (s : List ℕ) where
   -- 40 to 46 in turn
   pub script-tells : (places : ℕ) → TestsTell (scriptRules o s places)
   unfolding TestsTell scriptRules
-  script-tells places = (whole-tells s, λ _. (at-most-tells (recordsIn s) places, λ _. tell-all (recordRules o s) (recordsIn s) (λ i l. record-tells i)))
+  script-tells places = (whole-tells s, λ _. (at-most-tells (recordsIn s) places, λ _. tell-all (releaseRules o s) (recordsIn s) (λ i l. record-tells i)))
 
 pub one-script-answer : OneScriptAnswer
 unfolding OneRightAnswer

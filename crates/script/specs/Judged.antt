@@ -12,7 +12,7 @@ use Rattle.model.specs.Limits.{mostRecords}
 use Rattle.model.specs.Rules.{firstBroken}
 use Rattle.machine.specs.Pattern.{runOf}
 use Rattle.script.specs.declared.ReleaseTaken.{ReleaseTaken}
-use Rattle.script.specs.Script.{releaseAt, spareAt, recordsIn, scriptOf, earliest, recordRules, scriptRules}
+use Rattle.script.specs.Script.{releaseAt, spareAt, recordsIn, scriptOf, earliest, releaseRules, scriptRules}
 use Rattle.script.specs.Held.{Held}
 
 -- tick and task as one number: it rises exactly as records do "by tick, then task"
@@ -39,7 +39,7 @@ pub record ToldOf (o : Order) (s : List ℕ) (i : ℕ) (taken : ReleaseTaken) (t
 
 -- 41 to 45 of record i, of every order and script of which it was told so
 abbrev pub JudgesRelease : ReleaseTaken → (tasks most least from i : ℕ) → Answer → Type 0
-JudgesRelease taken tasks most least from i answer = (o : Order) (s : List ℕ) → ToldOf o s i taken tasks most least from → answer ≡ firstBroken 0 (recordRules o s i)
+JudgesRelease taken tasks most least from i answer = (o : Order) (s : List ℕ) → ToldOf o s i taken tasks most least from → answer ≡ firstBroken 0 (releaseRules o s i)
 
 -- the numbers of the records below so many stand in the arrays
 pub record HeldBelow (s : List ℕ) (records : ℕ) (keys durations : List ℕ) : Type 0 where
@@ -49,7 +49,7 @@ pub record HeldBelow (s : List ℕ) (records : ℕ) (keys durations : List ℕ) 
 
 -- record by record 41 to 45; where all hold, the numbers of these records stand in the arrays
 pub record JudgesRecords (o : Order) (s : List ℕ) (records : ℕ) (keys durations : List ℕ) (answer : Answer) : Type 0 where
-  pub answers : answer ≡ firstBroken records (joined (recordRules o s) records)
+  pub answers : answer ≡ firstBroken records (joined (releaseRules o s) records)
   pub holds : (count : ℕ) → answer ≡ Done count → HeldBelow s records keys durations
 
 -- 40, 46, then 41 to 45; where all hold, the script's numbers stand in the arrays

@@ -7,7 +7,7 @@ use Rattle.laws.specs.Joined.{joined}
 use Rattle.model.specs.declared.order.Order.{Order}
 use Rattle.model.specs.Rules.{firstBroken}
 use Rattle.model.proofs.Rules.{scan-stop, any-count, pass-done, never}
-use Rattle.script.specs.Script.{recordRules}
+use Rattle.script.specs.Script.{releaseRules}
 use Rattle.script.proofs.Records.{period-few}
 use Rattle.script.proofs.Keys.{key-small}
 use denote.Ref.{now}
@@ -31,7 +31,7 @@ O c processors = record { processors = processors; tasks = c .before .before .be
 
 -- the judgement is that of the record's rules
 judged-so : (c : tie.After-judge-release Inv-loop μ-loop) (processors : ℕ) →
-    c .judge-release .result ≡ firstBroken 0 (recordRules (O (c .before .before) processors) (now (c .before .before .before .before .before .before .before .args .script)) (c .before .before .before .before .loop .i))
+    c .judge-release .result ≡ firstBroken 0 (releaseRules (O (c .before .before) processors) (now (c .before .before .before .before .before .before .before .args .script)) (c .before .before .before .before .loop .i))
 judged-so c processors =
     let s = now (c .before .before .before .before .before .before .before .args .script) in
     let l = c .before .before .before .before .loop in
@@ -76,7 +76,7 @@ returns c =
     let j = c .before .before .before in
     let a = j .before .before .before .before .before .before .before .args in
     let l = j .before .before .before .before .loop in
-    let rules = recordRules (a .order) (now (a .script)) in
+    let rules = releaseRules (a .order) (now (a .script)) in
     record {
       answers = sym (scan-stop rules (a .records) (a .records) (l .i) _ (j .before .before .before .loop-test .taken) (l .inv .1 (a .order .processors) .passes) (any-count 0 (a .records) (rules (l .i)) _ (sym (judged-so j (a .order .processors)) ∙ c .before .judged .given .1)));
       holds = λ count e. never e;
@@ -137,7 +137,7 @@ returns-2 c =
     let l = c .before .loop in
     let all : l .i ≡ a .records = le-antisymm (l .inv .0) (c .loop-test .left) in
     let below = l .inv .1 (a .order .processors) in
-    let rules = joined (recordRules (a .order) (now (a .script))) in
+    let rules = joined (releaseRules (a .order) (now (a .script))) in
     record {
       answers = sym (pass-done (a .records) (rules (a .records)) (rw all at (below .passes)));
       holds = λ count e. rw all at (below .held);
