@@ -1,3 +1,3 @@
+pub mod Checked
 pub mod Chain
-pub mod Says
 pub mod Claims

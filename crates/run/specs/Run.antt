@@ -8,12 +8,12 @@ use Rattle.model.specs.Answer.{outputAfter}
 use Rattle.model.specs.Rules.{Rule, firstBroken}
 use Rattle.order.specs.Order.{orderAt}
 use Rattle.build.specs.Build.{buildAt}
-use Rattle.inspect.specs.Rules.{partitionsOf, checkRules}
+use Rattle.inspect.specs.Rules.{checkRules}
 use Rattle.script.specs.Script.{recordsIn, scriptOf, scriptRules}
 use Rattle.finish.specs.Finish.{finishTicks}
 
 unfoldable pub runRules : (order build script : List ℕ) → (places : ℕ) → List Rule
-runRules order build script places = checkRules order build ++ scriptRules (orderAt order .table) (orderAt order .tasks) script places
+runRules order build script places = checkRules order build ++ scriptRules (orderAt order) script places
 
 -- "0 means done: .. count of .. finish ticks written"
 unfoldable pub runAnswer : (order build script : List ℕ) → (places : ℕ) → Answer
@@ -21,13 +21,13 @@ runAnswer order build script places = firstBroken (recordsIn script) (runRules o
 
 -- the finish ticks of an accepted run
 unfoldable pub runTicks : (order build script : List ℕ) → List ℕ
-runTicks order build script = finishTicks (orderAt order .table) (partitionsOf (buildAt build)) (orderAt order .tasks) (scriptOf script)
+runTicks order build script = finishTicks (orderAt order) (buildAt build) (scriptOf script)
 
 -- "On refusal the output is unchanged; on success only the counted front changes."
-unfoldable pub runOutput : (order build script out : List ℕ) → List ℕ
-runOutput order build script out = outputAfter (runAnswer order build script (length out)) (runTicks order build script) out
+unfoldable pub runOutput : (order build script output : List ℕ) → List ℕ
+runOutput order build script output = outputAfter (runAnswer order build script (length output)) (runTicks order build script) output
 
 -- what a run promises
-pub record Ran (order build script : List ℕ) (out : List ℕ) (answer : Answer) (after : List ℕ) : Type 0 where
-  pub answers : answer ≡ runAnswer order build script (length out)
-  pub leaves : after ≡ runOutput order build script out
+pub record Ran (order build script output : List ℕ) (answer : Answer) (after : List ℕ) : Type 0 where
+  pub answers : answer ≡ runAnswer order build script (length output)
+  pub leaves : after ≡ runOutput order build script output
