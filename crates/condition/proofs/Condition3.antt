@@ -59,7 +59,7 @@ module _ (o : Order) (b : Build) (checked : CheckedBuild o b) where
         in-time = λ task release some.
             (let known = legal .known release task some in
             let f = passing-is-in-time o (membersOf b (homeOf b task)) task _ (checked .limits) known (home-member b (homeOf b task) task refl) (checked .passing task known) releases legal release some in
-            record { finish = f .finish; finishes = f .finishes; by-deadline = f .in-deadline; within-response = f .in-response });
+            record { finish = f .finish; finishes = f .finishes; by-deadline = omega (arith, f .in-deadline); within-response = omega (arith, f .in-response) });
       }
 
 pub condition-3 : Condition3
