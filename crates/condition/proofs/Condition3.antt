@@ -18,7 +18,8 @@ use Rattle.machine.specs.Claims.{WideAndApart}
 use Rattle.machine.proofs.Box.{runs-own-jobs, occupies-own, serves-one, occupies-width}
 use Rattle.machine.proofs.Isolation.{home-member}
 use Rattle.busy.proofs.Passing.{passing-is-in-time}
-use Rattle.run.proofs.Checked.{CheckedBuild, done-checked}
+use Rattle.run.specs.Checked.{CheckedBuild}
+use Rattle.run.proofs.Checked.{done-checked}
 use Rattle.condition.specs.Condition3.{OnEnough, Kept, Condition3}
 
 module _ (o : Order) (b : Build) (checked : CheckedBuild o b) where

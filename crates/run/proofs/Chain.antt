@@ -1,8 +1,8 @@
 -- The run's parts in turn: the check stops it, or the script's rules go on.
-use Prim.Native.Nat.{ℕ, _≤_}
-use mathlib.Core.Path.{_≡_, sym, ap, _∙_}
-use mathlib.Core.List.{List, _++_}
-use lib.ListN.{length, drop}
+use Prim.Native.Nat.{ℕ}
+use mathlib.Core.Path.{_≡_, refl, sym, ap, _∙_, subst}
+use mathlib.Core.List.{List}
+use lib.ListN.{length}
 use Rattle.model.specs.declared.order.Order.{Order}
 use Rattle.model.specs.declared.build.Build.{Build}
 use Rattle.model.specs.declared.answer.Answer.{Answer}
@@ -10,16 +10,19 @@ use Rattle.model.specs.declared.answer.Answer.the-variants.{Done, Refused}
 use Rattle.model.specs.declared.answer.Refusal.{Refusal}
 use Rattle.model.specs.Answer.{outputAfter}
 use Rattle.model.specs.Rules.{firstBroken}
-use Rattle.model.proofs.Output.{after-refused, after-done}
-use Rattle.model.proofs.Rules.{AllPass, done-pass, done-count, pass-on, pass-kept, stop, any-count}
+use Rattle.model.proofs.Output.{after-refused}
+use Rattle.model.proofs.Rules.{AllPass, done-pass, pass-on, pass-kept, stop, any-count, never}
 use Rattle.order.specs.Order.{orderAt}
 use Rattle.build.specs.Build.{buildAt}
-use Rattle.inspect.specs.Rules.{checkRules, checkAnswer}
+use Rattle.inspect.specs.declared.Checked.{Checked}
+use Rattle.inspect.specs.Rules.{checkRules, checkAnswer, checkedBy, ChecksBoth}
 use Rattle.script.specs.Script.{recordsIn, scriptOf, scriptRules}
 use Rattle.script.specs.Claims.{ScriptAccepted}
 use Rattle.script.proofs.Accepted.{rules-accepted}
 use Rattle.script.proofs.Tells.{script-tells}
 use Rattle.finish.specs.Finish.{finishTicks}
+use Rattle.run.specs.Checked.{CheckedBuild, RanScript}
+use Rattle.run.proofs.Checked.{done-checked}
 use Rattle.run.specs.Run.{runRules, runAnswer, runTicks, runOutput, Ran}
 
 -- a script that is not refused is accepted
@@ -42,6 +45,33 @@ module _ (order build : List ℕ) where
     unfolding runAnswer runRules
     script-next e = pass-on (recordsIn script) (checkRules order build) (scriptRules (orderAt order) script places) (check-passes e)
 
+-- the check that hands on what it read: its answer is the check's, and on a yes it hands on the order and the build
+answer-kept : (answer : Answer) (o : Order) (b : Build) → checkedBy answer o b .answer ≡ answer
+answer-kept (Done count) o b = refl
+answer-kept (Refused cause) o b = refl
+
+handed-on : (answer : Answer) (o : Order) (b : Build) {count : ℕ} → answer ≡ Done count → (checkedBy answer o b .order ≡ o) × (checkedBy answer o b .build ≡ b)
+handed-on (Done counted) o b e = (refl, refl)
+handed-on (Refused cause) o b e = never e
+
+module _ (order build : List ℕ) (checked : Checked) (so : ChecksBoth order build checked) where
+  pub checked-answer : checked .answer ≡ checkAnswer order build
+  checked-answer = ap (λ (x : Checked). x .answer) so ∙ answer-kept (checkAnswer order build) (orderAt order) (buildAt build)
+
+  module _ {count : ℕ} (done : checked .answer ≡ Done count) where
+    said-yes : checkAnswer order build ≡ Done count
+    said-yes = sym checked-answer ∙ done
+
+    pub handed-order : checked .order ≡ orderAt order
+    handed-order = ap (λ (x : Checked). x .order) so ∙ handed-on (checkAnswer order build) (orderAt order) (buildAt build) said-yes .0
+
+    pub handed-build : checked .build ≡ buildAt build
+    handed-build = ap (λ (x : Checked). x .build) so ∙ handed-on (checkAnswer order build) (orderAt order) (buildAt build) said-yes .1
+
+    -- both are as the check leaves them
+    pub handed-checked : CheckedBuild (checked .order) (checked .build)
+    handed-checked = rw (handed-order, handed-build) (done-checked order build said-yes)
+
 module _ (order build script output : List ℕ) where
   -- a run that the check refuses
   pub ran-refused : {cause : Refusal} → checkAnswer order build ≡ Refused cause → Ran order build script output (Refused cause) output
@@ -50,18 +80,25 @@ module _ (order build script output : List ℕ) where
       let stops = check-stops order build script (length output) e in
       record { answers = sym stops; leaves = rw stops (sym (after-refused cause (runTicks order build script) output)) }
 
-  -- a run that it lets pass, refused by the script
-  pub ran-stopped : {count : ℕ} {cause : Refusal} → checkAnswer order build ≡ Done count → firstBroken (recordsIn script) (scriptRules (orderAt order) script (length output)) ≡ Refused cause
-      → Ran order build script output (Refused cause) output
-  unfolding runOutput
-  ran-stopped {cause} done e =
-      let stops = script-next order build script (length output) done ∙ e in
-      record { answers = sym stops; leaves = rw stops (sym (after-refused cause (runTicks order build script) output)) }
-
-  -- a run that is run: the finish ticks, and the rest of the output behind them
-  pub ran-through : {count records : ℕ} {after : List ℕ} → checkAnswer order build ≡ Done count → firstBroken (recordsIn script) (scriptRules (orderAt order) script (length output)) ≡ Done records
-      → after ≡ finishTicks (orderAt order) (buildAt build) (scriptOf script) ++ drop records output → Ran order build script output (Done records) after
+  -- a run that it lets pass
+  pub ran-on : {count : ℕ} {answer : Answer} {after : List ℕ} → checkAnswer order build ≡ Done count → RanScript (orderAt order) (buildAt build) script output answer after
+      → Ran order build script output answer after
   unfolding runOutput runTicks
-  ran-through {records} {after} done e writes =
-      let answers = script-next order build script (length output) done ∙ e in
-      record { answers = sym answers; leaves = writes ∙ rw answers (sym (after-done records (finishTicks (orderAt order) (buildAt build) (scriptOf script)) output)) }
+  ran-on done ran =
+      let answers = ran .script-answer ∙ sym (script-next order build script (length output) done) in
+      record {
+        answers = answers;
+        leaves = ran .script-output ∙ ap (λ (x : Answer). outputAfter x (finishTicks (orderAt order) (buildAt build) (scriptOf script)) output) answers;
+      }
+
+-- the same, from the check that hands on what it read
+module _ (order build script output : List ℕ) (checked : Checked) (so : ChecksBoth order build checked) where
+  pub ran-not : {cause : Refusal} → checked .answer ≡ Refused cause → Ran order build script output (Refused cause) output
+  ran-not e = ran-refused order build script output (sym (checked-answer order build checked so) ∙ e)
+
+  pub ran-handed : {count : ℕ} {answer : Answer} {after : List ℕ} → checked .answer ≡ Done count → RanScript (checked .order) (checked .build) script output answer after
+      → Ran order build script output answer after
+  ran-handed {answer} {after} done ran =
+      ran-on order build script output (sym (checked-answer order build checked so) ∙ done)
+      (subst (λ (b : Build). RanScript (orderAt order) b script output answer after) (handed-build order build checked so done)
+      (subst (λ (o : Order). RanScript o (checked .build) script output answer after) (handed-order order build checked so done) ran))

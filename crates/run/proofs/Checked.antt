@@ -1,4 +1,4 @@
--- What the check's yes gives the machine and the theory: an order within the limits, partitions that are there, wide and apart, right ranks, and verdicts that are the records.
+-- An order and a build that the check accepts are as specs/Checked.antt says.
 use Prim.Native.Nat.{ℕ, _<_}
 use mathlib.Core.Path.{_≡_, sym, ap, _∙_}
 use mathlib.Core.Bool.{true, false}
@@ -8,8 +8,8 @@ use Rattle.laws.proofs.Every.{and-both, clash}
 use Rattle.model.specs.declared.order.Order.{Order}
 use Rattle.model.specs.declared.build.Build.{Build}
 use Rattle.model.specs.declared.answer.Answer.the-variants.{Done}
-use Rattle.model.specs.Limits.{mostPartitions, memberOf, homeOf}
-use Rattle.model.specs.Rules.{AllKept, InRange, WithinLimits}
+use Rattle.model.specs.Limits.{memberOf, homeOf}
+use Rattle.model.specs.Rules.{AllKept}
 use Rattle.model.proofs.Rules.{AllPass, done-pass, pass-front, pass-rest, scan-at, pass-kept, kept-at}
 use Rattle.order.specs.Order.{orderAt, orderRules}
 use Rattle.order.proofs.Reading.{within-limits}
@@ -25,16 +25,7 @@ use Rattle.inspect_places.proofs.Tell.{places-tell}
 use Rattle.inspect_members.specs.Rules.{WideEnough, wideEnough, widthRules, rankRules}
 use Rattle.inspect_tests.specs.Rules.{windowThere, startsThere, inTime, responseRight, taskTestRules, testRules}
 use Rattle.inspect.specs.Rules.{recordRules, buildRules, checkRules, checkAnswer}
-
-pub record CheckedBuild (o : Order) (b : Build) : Type 0 where
-  pub limits : WithinLimits o
-  pub same-processors : b .processors ≡ o .processors
-  pub same-tasks : b .tasks ≡ o .tasks
-  pub few-partitions : InRange 1 mostPartitions (b .partitions)
-  pub places : (p : ℕ) → p < b .partitions → PartitionRight (o .processors) b p
-  pub seats : (i : ℕ) → i < o .tasks → WideEnough o b i
-  pub ranks : (i : ℕ) → i < o .tasks → memberOf b i .rank ≡ rank o (membersOf b (homeOf b i)) i
-  pub passing : (i : ℕ) → i < o .tasks → verdict o (membersOf b (homeOf b i)) i ≡ Passes (memberOf b i .response)
+use Rattle.run.specs.Checked.{CheckedBuild}
 
 -- 27 to 30 of a verdict
 passes-recorded : (found : Verdict) (recorded : ℕ) → windowThere found ≡ true → startsThere found ≡ true → inTime found ≡ true → responseRight found recorded ≡ true → found ≡ Passes recorded

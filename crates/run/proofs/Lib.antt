@@ -1,3 +1,4 @@
 pub mod Checked
 pub mod Chain
+pub mod Script
 pub mod Claims

@@ -1,2 +1,3 @@
 pub mod Run
+pub mod Checked
 pub mod Claims
