@@ -6,9 +6,10 @@ use Prim.Native.Nat.{ℕ, _+_, _*_, _/_, _%_, _≤_, _<_}
 use native.Mathlib.Omega.{arith}
 use lib.Dec.{leb, ltb, eqb}
 use lib.ListN.{length}
-use borrow.Author.Tests.{eq-eqb, ne-eqb, le-leb, lt-leb, lt-ltb, le-ltb}
+use borrow.Author.Tests.{eq-eqb, ne-eqb, le-leb, leb-true, lt-leb, lt-ltb, le-ltb}
 use Rattle.laws.specs.Choice.{within}
 use Rattle.laws.specs.Joined.{joined}
+use Rattle.laws.proofs.Every.{and-both}
 use Rattle.model.specs.declared.order.Order.{Order}
 use Rattle.model.specs.declared.answer.Answer.the-variants.{Done, Refused}
 use Rattle.model.specs.declared.answer.Refusal.the-variants.{OfScript}
@@ -16,28 +17,28 @@ use Rattle.model.specs.declared.answer.ScriptCause.the-variants.{ScriptLength, 
 use Rattle.model.specs.Rules.{firstBroken}
 use Rattle.machine.specs.Pattern.{runOf}
 use Rattle.script.specs.declared.ReleaseTaken.{ReleaseTaken}
-use Rattle.script.specs.Script.{releaseAt, spareAt, recordsIn, afterPrevious, earliest, releaseRules, scriptRules}
+use Rattle.script.specs.Script.{releaseAt, spareAt, recordsIn, wholeRecords, afterPrevious, earliest, releaseRules, scriptRules}
 use Rattle.script.specs.Judged.{ToldOf}
 use Rattle.script.proofs.Keys.{ordered-by-key, task-in-key, tick-in-key}
 
 -- 40 and 46
 module _ (count : ℕ) (o : Order) (s : List ℕ) (places : ℕ) where
-  pub part-of-record : (length s % 6 ≡ 0 → ⊥) → firstBroken count (scriptRules o s places) ≡ Refused (OfScript ScriptLength)
+  pub not-whole : wholeRecords s .test ≡ false → firstBroken count (scriptRules o s places) ≡ Refused (OfScript ScriptLength)
   unfolding scriptRules firstBroken
-  part-of-record ne = rw (ne-eqb (length s % 6) 0 ne)
+  not-whole broken = rw broken
 
-  pub too-long : length s % 6 ≡ 0 → 6144 < length s → firstBroken count (scriptRules o s places) ≡ Refused (OfScript ScriptLength)
+  pub too-few-places : wholeRecords s .test ≡ true → leb (recordsIn s) places ≡ false → firstBroken count (scriptRules o s places) ≡ Refused (OfScript FinishPlaces)
   unfolding scriptRules firstBroken
-  too-long e l = rw (eq-eqb (length s % 6) 0 e, lt-leb (length s) 6144 l)
+  too-few-places whole broken = rw (whole, broken)
 
-  pub too-few-places : length s % 6 ≡ 0 → length s ≤ 6144 → places < recordsIn s → firstBroken count (scriptRules o s places) ≡ Refused (OfScript FinishPlaces)
-  unfolding scriptRules firstBroken
-  too-few-places e l p = rw (eq-eqb (length s % 6) 0 e, le-leb (length s) 6144 l, lt-leb (recordsIn s) places p)
-
-  pub on-to-records : length s % 6 ≡ 0 → length s ≤ 6144 → recordsIn s ≤ places
+  pub on-to-records : wholeRecords s .test ≡ true → leb (recordsIn s) places ≡ true
       → firstBroken count (scriptRules o s places) ≡ firstBroken count (joined (releaseRules o s) (recordsIn s))
   unfolding scriptRules firstBroken
-  on-to-records e l p = rw (eq-eqb (length s % 6) 0 e, le-leb (length s) 6144 l, le-leb (recordsIn s) places p)
+  on-to-records whole room = rw (whole, room)
+
+-- whole records are few
+pub whole-few : (s : List ℕ) → wholeRecords s .test ≡ true → length s ≤ 6144
+whole-few s whole = leb-true (length s) 6144 (and-both (eqb (length s % 6) 0) _ whole .1)
 
 -- 41 to 45 of a record, as its judge was told of it
 module _ (o : Order) (s : List ℕ) (i : ℕ) (taken : ReleaseTaken) (tasks most least from : ℕ) (told : ToldOf o s i taken tasks most least from) where
@@ -76,14 +77,14 @@ module _ (o : Order) (s : List ℕ) (i : ℕ) (taken : ReleaseTaken) (tasks most
   unfolding releaseRules firstBroken
   wrong-duration e k l d = rw (spare-test, eq-eqb (taken .spare) 0 e, task-test, lt-ltb (taken .key % 32) tasks k, order-test, le-leb least (taken .key) l, ← duration-test, d)
 
-  pub too-close : taken .spare ≡ 0 → taken .key % 32 < tasks → least ≤ taken .key → within 1 most (taken .duration) ≡ true → taken .key / 32 < from
+  pub too-close : taken .spare ≡ 0 → taken .key % 32 < tasks → least ≤ taken .key → within 1 most (taken .duration) ≡ true → leb from (taken .key / 32) ≡ false
       → firstBroken 0 (releaseRules o s i) ≡ Refused (OfScript (ReleaseGap i))
   unfolding releaseRules firstBroken
   too-close e k l d g =
-      rw (spare-test, eq-eqb (taken .spare) 0 e, task-test, lt-ltb (taken .key % 32) tasks k, order-test, le-leb least (taken .key) l, ← duration-test, d, gap-test, lt-leb from (taken .key / 32) g)
+      rw (spare-test, eq-eqb (taken .spare) 0 e, task-test, lt-ltb (taken .key % 32) tasks k, order-test, le-leb least (taken .key) l, ← duration-test, d, gap-test, g)
 
-  pub record-right : taken .spare ≡ 0 → taken .key % 32 < tasks → least ≤ taken .key → within 1 most (taken .duration) ≡ true → from ≤ taken .key / 32
+  pub record-right : taken .spare ≡ 0 → taken .key % 32 < tasks → least ≤ taken .key → within 1 most (taken .duration) ≡ true → leb from (taken .key / 32) ≡ true
       → firstBroken 0 (releaseRules o s i) ≡ Done 0
   unfolding releaseRules firstBroken
   record-right e k l d g =
-      rw (spare-test, eq-eqb (taken .spare) 0 e, task-test, lt-ltb (taken .key % 32) tasks k, order-test, le-leb least (taken .key) l, ← duration-test, d, gap-test, le-leb from (taken .key / 32) g)
+      rw (spare-test, eq-eqb (taken .spare) 0 e, task-test, lt-ltb (taken .key % 32) tasks k, order-test, le-leb least (taken .key) l, ← duration-test, d, gap-test, g)

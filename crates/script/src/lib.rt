@@ -5,11 +5,14 @@ use model::Refusal;
 use model::Release;
 use model::ScriptCause;
 ghost use mathlib.Core.Path.{_≡_};
-ghost use Prim.Native.Nat.{_+_, _*_, _≤_, _<_};
+ghost use mathlib.Core.Bool.{_&&_};
+ghost use Prim.Native.Nat.{_+_, _*_, _%_, _≤_, _<_};
+ghost use lib.Dec.{eqb, leb};
 ghost use lib.ListN.{length};
 ghost use Rattle.bits.specs.Field.{field};
+ghost use Rattle.bits.specs.Layout.{bytesIn};
 ghost use Rattle.model.specs.Limits.{mostRecords};
-ghost use Rattle.model.specs.Layouts.{scriptLength};
+ghost use Rattle.model.specs.Layouts.{releaseRecord, scriptLength};
 ghost use Rattle.model.specs.Rules.{WithinLimits};
 ghost use Rattle.script.specs.Judged.{TakesRelease, JudgesRelease, JudgesRecords, JudgesScript};
 
@@ -59,6 +62,8 @@ fn judge_release(
 ) -> Answer
     ensures { λ r. ⌜ JudgesRelease taken tasks most least from i r ⌝ }
 {
+    let lasts = model::within(1, most, taken.duration);
+    let apart = from <= taken.key / 32;
     if taken.spare != 0 {
         return Answer::Refused(Refusal::OfScript(ScriptCause::RecordSpare(i)));
     }
@@ -68,10 +73,10 @@ fn judge_release(
     if taken.key < least {
         return Answer::Refused(Refusal::OfScript(ScriptCause::RecordOrder(i)));
     }
-    if !model::within(1, most, taken.duration) {
+    if !lasts {
         return Answer::Refused(Refusal::OfScript(ScriptCause::JobLength(i)));
     }
-    if taken.key / 32 < from {
+    if !apart {
         return Answer::Refused(Refusal::OfScript(ScriptCause::ReleaseGap(i)));
     }
     Answer::Done(0)
@@ -111,6 +116,13 @@ fn judge_records(
     Answer::Done(records as u32)
 }
 
+// Whether so many bytes are whole records, and few enough.
+fn whole_records(size: usize) -> bool
+    ensures { λ r. ⌜ r ≡ (eqb (size % bytesIn (releaseRecord 1)) 0 && leb size (scriptLength 1 mostRecords)) ⌝ }
+{
+    if size % Release::BYTES == 0 { size <= Release::MOST_BYTES } else { false }
+}
+
 // 40, 46, then record by record 41 to 45; done with the number of records.
 pub fn judge_script(
     order: Order,
@@ -123,14 +135,13 @@ pub fn judge_script(
     ensures { λ r. ⌜ JudgesScript order (now (script .entry)) places (now (keys .exit)) (now (durations .exit)) r ⌝ }
 {
     let size = script.len();
-    if size % Release::BYTES != 0 {
-        return Answer::Refused(Refusal::OfScript(ScriptCause::ScriptLength));
-    }
-    if Release::MOST_BYTES < size {
-        return Answer::Refused(Refusal::OfScript(ScriptCause::ScriptLength));
-    }
     let records = size / Release::BYTES;
-    if places < records {
+    let whole = whole_records(size);
+    let room = records <= places;
+    if !whole {
+        return Answer::Refused(Refusal::OfScript(ScriptCause::ScriptLength));
+    }
+    if !room {
         return Answer::Refused(Refusal::OfScript(ScriptCause::FinishPlaces));
     }
     judge_records(order, script, records, keys, durations)
