@@ -120,7 +120,11 @@ fn judge_records(
 fn whole_records(size: usize) -> bool
     ensures { λ r. ⌜ r ≡ (eqb (size % bytesIn (releaseRecord 1)) 0 && leb size (scriptLength 1 mostRecords)) ⌝ }
 {
-    if size % Release::BYTES == 0 { size <= Release::MOST_BYTES } else { false }
+    if size % Release::BYTES == 0 {
+        size <= Release::MOST_BYTES
+    } else {
+        false
+    }
 }
 
 // 40, 46, then record by record 41 to 45; done with the number of records.
