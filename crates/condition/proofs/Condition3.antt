@@ -18,25 +18,25 @@ use Rattle.machine.specs.Claims.{WideAndApart}
 use Rattle.machine.proofs.Box.{runs-own-jobs, occupies-own, serves-one, occupies-width}
 use Rattle.machine.proofs.Isolation.{home-member}
 use Rattle.busy.proofs.Passing.{passing-is-in-time}
-use Rattle.run.specs.Checked.{CheckedBuild}
-use Rattle.run.proofs.Checked.{done-checked}
+use Rattle.inspect.specs.Claims.{AcceptedBuild}
+use Rattle.inspect.proofs.Claims.{done-accepts}
 use Rattle.condition.specs.Condition3.{OnEnough, Kept, Condition3}
 
-module _ (o : Order) (b : Build) (checked : CheckedBuild o b) where
+module _ (o : Order) (b : Build) (accepted : AcceptedBuild o b) where
   -- rule 24, of two partitions in either order
   meets : (p q x : ℕ) → p < b .partitions → q < b .partitions → OfPartition (placeOf b p) x → OfPartition (placeOf b q) x → p ≡ q
   meets p q x under under′ h g = go (decLt p q) (decLt q p)
     where
       go : Dec (p < q) → Dec (q < p) → p ≡ q
-      go (yes l) d = absurd (checked .places q under′ .apart p l (x, h, g))
-      go (no l) (yes m) = absurd (checked .places p under .apart q m (x, g, h))
+      go (yes l) d = absurd (accepted .places q under′ .apart p l (x, h, g))
+      go (no l) (yes m) = absurd (accepted .places p under .apart q m (x, g, h))
       go (no l) (no m) = omega arith
 
   wide-and-apart : WideAndApart o b
   wide-and-apart =
       record {
-        wide = λ task known. checked .seats task known .wide;
-        apart = λ one other x l m h g. meets (homeOf b one) (homeOf b other) x (checked .seats one l .there) (checked .seats other m .there) h g;
+        wide = λ task known. accepted .widths task known .wide;
+        apart = λ one other x l m h g. meets (homeOf b one) (homeOf b other) x (accepted .widths one l .there) (accepted .widths other m .there) h g;
       }
 
   on-enough : (releases : Pattern) (task : ℕ) → task < o .tasks → OnEnough o b releases task
@@ -46,7 +46,7 @@ module _ (o : Order) (b : Build) (checked : CheckedBuild o b) where
         enough = λ k below. occupies-width o b task k below .0;
         different = λ k l under under′ e. omega arith;
         of-its-own = λ x on. occupies-own o b wide-and-apart task x known on;
-        below-M = λ x on. checked .places (homeOf b task) (checked .seats task known .there) .inside x (occupies-own o b wide-and-apart task x known on);
+        below-M = λ x on. accepted .places (homeOf b task) (accepted .widths task known .there) .inside x (occupies-own o b wide-and-apart task x known on);
       }
 
   kept : (releases : Pattern) → LegalPattern o releases → Kept o b releases
@@ -59,9 +59,9 @@ module _ (o : Order) (b : Build) (checked : CheckedBuild o b) where
             (sym (own .its-partition), on-enough releases task (own .known)));
         in-time = λ task release some.
             (let known = legal .known release task some in
-            let f = passing-is-in-time o (membersOf b (homeOf b task)) task _ (checked .limits) known (home-member b (homeOf b task) task refl) (checked .passing task known) releases legal release some in
+            let f = passing-is-in-time o (membersOf b (homeOf b task)) task _ (accepted .limits) known (home-member b (homeOf b task) task refl) (accepted .passing task known) releases legal release some in
             record { finish = f .finish; finishes = f .finishes; by-deadline = omega (arith, f .in-deadline); within-response = omega (arith, f .in-response) });
       }
 
 pub condition-3 : Condition3
-condition-3 order build done releases legal = kept (orderAt order) (buildAt build) (done-checked order build done) releases legal
+condition-3 order build done releases legal = kept (orderAt order) (buildAt build) (done-accepts order build done) releases legal

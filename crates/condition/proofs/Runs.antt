@@ -13,10 +13,10 @@ use Rattle.machine.specs.Pattern.{recordOf, patternOf}
 use Rattle.machine.specs.Box.{Finishes}
 use Rattle.machine.proofs.Box.{finishes-once}
 use Rattle.busy.proofs.Passing.{records-are-in-time}
+use Rattle.inspect.proofs.Claims.{done-accepts}
 use Rattle.script.specs.Script.{recordsIn, scriptOf}
 use Rattle.script.proofs.Records.{script-length}
 use Rattle.run.specs.Run.{runAnswer, Ran}
-use Rattle.run.proofs.Checked.{done-checked}
 use Rattle.run.proofs.Claims.{done-parts, writes-finishes}
 use Rattle.condition.specs.Runs.{FinishedInTime, RunsInTime}
 
@@ -28,12 +28,12 @@ module _ (order build script output : List ℕ) (count : ℕ) (after : List ℕ)
       let b = buildAt build in
       let r = recordOf (scriptOf script) i in
       let parts = done-parts order build script (length output) (sym (ran .answers)) in
-      let checked = done-checked order build (parts .0) in
+      let accepted = done-accepts order build (parts .0) in
       let legal = parts .1 .legal in
       let written = writes-finishes order build script output count after ran in
       let record-there : i < recordsIn script = omega (arith, written .counts) in
       let here : i < length (scriptOf script) = omega (arith, script-length script) in
-      let f = records-are-in-time o b (scriptOf script) (checked .limits) legal i _ here (checked .passing (r .task) (legal .known i here)) in
+      let f = records-are-in-time o b (scriptOf script) (accepted .limits) legal i _ here (accepted .passing (r .task) (legal .known i here)) in
       let same : f .finish ≡ getD after i 0 = finishes-once o b (patternOf (scriptOf script)) (r .task) (r .tick) (f .finish) (getD after i 0) (f .finishes) (written .finishes i record-there) in
       record { by-deadline = omega (arith, same, f .in-deadline); within-response = omega (arith, same, f .in-response) }
 

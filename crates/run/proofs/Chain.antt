@@ -11,19 +11,19 @@ use Rattle.model.specs.declared.answer.Refusal.{Refusal}
 use Rattle.model.specs.Answer.{outputAfter}
 use Rattle.model.specs.Rules.{firstBroken}
 use Rattle.model.proofs.Output.{after-refused}
-use Rattle.model.proofs.Rules.{AllPass, done-pass, pass-on, pass-kept, stop, any-count, never}
+use Rattle.model.proofs.Rules.{AllPass, pass-done, done-pass, pass-on, pass-kept, stop, any-count, never}
 use Rattle.order.specs.Order.{orderAt}
 use Rattle.build.specs.Build.{buildAt}
 use Rattle.inspect.specs.declared.Checked.{Checked}
 use Rattle.inspect.specs.Rules.{checkRules, checkAnswer, checkedBy, ChecksBoth}
+use Rattle.inspect.specs.Claims.{AcceptedBuild}
+use Rattle.inspect.proofs.Claims.{done-accepts}
 use Rattle.script.specs.Script.{recordsIn, scriptOf, scriptRules}
 use Rattle.script.specs.Claims.{ScriptAccepted}
 use Rattle.script.proofs.Accepted.{rules-accepted}
 use Rattle.script.proofs.Tells.{script-tells}
 use Rattle.finish.specs.Finish.{finishTicks}
-use Rattle.run.specs.Checked.{CheckedBuild, RanScript}
-use Rattle.run.proofs.Checked.{done-checked}
-use Rattle.run.specs.Run.{runRules, runAnswer, runTicks, runOutput, Ran}
+use Rattle.run.specs.Run.{runRules, runAnswer, runTicks, runOutput, RanScript, Ran}
 
 -- a script that is not refused is accepted
 pub script-accepted : (o : Order) (script : List ℕ) (places : ℕ) {count : ℕ} → firstBroken (recordsIn script) (scriptRules o script places) ≡ Done count → ScriptAccepted o script places
@@ -34,6 +34,11 @@ module _ (order build : List ℕ) where
   pub check-passes : {count : ℕ} → checkAnswer order build ≡ Done count → AllPass (checkRules order build)
   unfolding checkAnswer
   check-passes e = done-pass 0 (checkRules order build) e
+
+  -- the check counts nothing
+  check-zero : {count : ℕ} → checkAnswer order build ≡ Done count → checkAnswer order build ≡ Done 0
+  unfolding checkAnswer
+  check-zero e = pass-done 0 (checkRules order build) (check-passes e)
 
   module _ (script : List ℕ) (places : ℕ) where
     pub check-stops : {cause : Refusal} → checkAnswer order build ≡ Refused cause → runAnswer order build script places ≡ Refused cause
@@ -68,9 +73,9 @@ module _ (order build : List ℕ) (checked : Checked) (so : ChecksBoth order bui
     pub handed-build : checked .build ≡ buildAt build
     handed-build = ap (λ (x : Checked). x .build) so ∙ handed-on (checkAnswer order build) (orderAt order) (buildAt build) said-yes .1
 
-    -- both are as the check leaves them
-    pub handed-checked : CheckedBuild (checked .order) (checked .build)
-    handed-checked = rw (handed-order, handed-build) (done-checked order build said-yes)
+    -- both are as the check accepts them
+    pub handed-accepted : AcceptedBuild (checked .order) (checked .build)
+    handed-accepted = rw (handed-order, handed-build) (done-accepts order build (check-zero order build said-yes))
 
 module _ (order build script output : List ℕ) where
   -- a run that the check refuses

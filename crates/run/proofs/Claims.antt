@@ -8,12 +8,14 @@ use Rattle.laws.proofs.Joined.{length-listed, getD-listed}
 use Rattle.model.specs.declared.answer.Answer.{Answer}
 use Rattle.model.specs.declared.answer.Answer.the-variants.{Done}
 use Rattle.model.specs.Answer.{outputAfter, OnlyCountedFront}
-use Rattle.model.specs.Rules.{Rule, TestsTell, OneRightAnswer}
+use Rattle.model.specs.Rules.{Rule, OneRightAnswer}
 use Rattle.model.proofs.Output.{after-done, only-counted-front}
 use Rattle.model.proofs.Rules.{AllPass, pass-done, done-pass, done-count, pass-append, pass-front, pass-rest, pass-kept, kept-pass, tell-append, one-right-answer}
 use Rattle.order.specs.Order.{orderAt}
 use Rattle.build.specs.Build.{buildAt}
 use Rattle.inspect.specs.Rules.{checkRules, checkAnswer}
+use Rattle.inspect.proofs.Claims.{done-exactly}
+use Rattle.inspect.proofs.Turn.{check-tells}
 use Rattle.script.specs.Script.{recordsIn, scriptOf, scriptRules}
 use Rattle.script.specs.Claims.{ScriptAccepted}
 use Rattle.script.proofs.Accepted.{rules-accepted, accepted-rules}
@@ -57,12 +59,14 @@ module _ (order build script : List ℕ) (places : ℕ) where
       (pass-append (checkRules order build) mine (check-passes order build yes-said) (kept-pass mine (script-tells (orderAt order) script places) (accepted-rules (orderAt order) script places accepted)))
 
 pub run-done-exactly : RunDoneExactly
-run-done-exactly order build script places = (done-parts order build script places, parts-done order build script places)
+run-done-exactly order build script places = (
+  λ e. (let parts = done-parts order build script places e in (done-exactly order build .0 (parts .0), parts .1)),
+  λ parts. parts-done order build script places (done-exactly order build .1 (parts .0), parts .1),
+)
 
--- from the check's tests, which tell
-pub run-answer-from : ((order build : List ℕ) → TestsTell (checkRules order build)) → OneRunAnswer
+pub one-run-answer : OneRunAnswer
 unfolding runAnswer runRules OneRightAnswer
-run-answer-from check-tells order build script places answer =
+one-run-answer order build script places answer =
     one-right-answer (recordsIn script) (checkRules order build ++ scriptRules (orderAt order) script places)
     (tell-append (checkRules order build) (scriptRules (orderAt order) script places) (check-tells order build) (λ all. script-tells (orderAt order) script places)) answer
 

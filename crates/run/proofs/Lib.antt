@@ -1,4 +1,3 @@
-pub mod Checked
 pub mod Chain
 pub mod Script
 pub mod Claims

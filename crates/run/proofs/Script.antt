@@ -1,4 +1,4 @@
--- The script of a checked order and build: what the course of the machines needs, and what was written after it.
+-- The script of an accepted order and build: what the course of the machines needs, and what was written after it.
 use Prim.Native.Nat.{ℕ, _≤_}
 use mathlib.Core.Path.{_≡_, sym, ap, _∙_}
 use mathlib.Core.List.{List, _++_}
@@ -17,7 +17,8 @@ use Rattle.script.proofs.Bytes.{accepted-short}
 use Rattle.script.proofs.Records.{script-length}
 use Rattle.finish.specs.Finish.{finishTicks}
 use Rattle.course.specs.Course.{Runnable}
-use Rattle.run.specs.Checked.{CheckedBuild, RanScript}
+use Rattle.inspect.specs.Claims.{AcceptedBuild}
+use Rattle.run.specs.Run.{RanScript}
 use Rattle.run.proofs.Chain.{script-accepted}
 
 module _ (o : Order) (b : Build) (script output keys durations : List ℕ) {answer : Answer} (judged : JudgesScript o script (length output) keys durations answer) where
@@ -26,17 +27,17 @@ module _ (o : Order) (b : Build) (script output keys durations : List ℕ) {answ
   ran-none {cause} e = record { script-answer = sym e ∙ judged .answer-is; script-output = sym (after-refused cause (finishTicks o b (scriptOf script)) output) }
 
   -- one that is not is run
-  pub runnable : {count : ℕ} → CheckedBuild o b → answer ≡ Done count → Runnable o b count keys durations (length output)
-  runnable {count} checked e =
+  pub runnable : {count : ℕ} → AcceptedBuild o b → answer ≡ Done count → Runnable o b count keys durations (length output)
+  runnable {count} build-accepted e =
       let passed = sym (judged .answer-is) ∙ e in
       let accepted = script-accepted o script (length output) passed in
       let same : count ≡ recordsIn script = done-count (recordsIn script) (scriptRules o script (length output)) passed in
       record {
         script = scriptOf script;
-        few = checked .limits .tasks .1;
-        few-partitions = checked .few-partitions .1;
-        homes = λ k below. checked .seats k below .there;
-        ranked = checked .ranks;
+        few = build-accepted .limits .tasks .1;
+        few-partitions = build-accepted .partitions .1;
+        homes = λ k below. build-accepted .widths k below .there;
+        ranked = build-accepted .ranks;
         legal = accepted .legal;
         short = accepted-short o script (length output) accepted;
         held = judged .numbers-held count e;
@@ -44,7 +45,7 @@ module _ (o : Order) (b : Build) (script output keys durations : List ℕ) {answ
         room = omega (arith, script-length script, accepted .room);
       }
 
-  pub ran-all : {count : ℕ} {after : List ℕ} (checked : CheckedBuild o b) (e : answer ≡ Done count)
-      → after ≡ finishTicks o b (runnable checked e .script) ++ drop count output → RanScript o b script output (Done count) after
+  pub ran-all : {count : ℕ} {after : List ℕ} (build-accepted : AcceptedBuild o b) (e : answer ≡ Done count)
+      → after ≡ finishTicks o b (runnable build-accepted e .script) ++ drop count output → RanScript o b script output (Done count) after
   unfolding runnable
-  ran-all {count} checked e written = record { script-answer = sym e ∙ judged .answer-is; script-output = written ∙ sym (after-done count (finishTicks o b (scriptOf script)) output) }
+  ran-all {count} build-accepted e written = record { script-answer = sym e ∙ judged .answer-is; script-output = written ∙ sym (after-done count (finishTicks o b (scriptOf script)) output) }

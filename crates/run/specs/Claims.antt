@@ -12,6 +12,7 @@ use Rattle.model.specs.Rules.{RightAnswer}
 use Rattle.order.specs.Order.{orderAt}
 use Rattle.build.specs.Build.{buildAt}
 use Rattle.inspect.specs.Rules.{checkAnswer}
+use Rattle.inspect.specs.Claims.{EveryRule}
 use Rattle.machine.specs.Pattern.{recordOf}
 use Rattle.machine.specs.Box.{recordsOf}
 use Rattle.script.specs.Script.{recordsIn, scriptOf}
@@ -19,10 +20,10 @@ use Rattle.script.specs.Claims.{ScriptAccepted}
 use Rattle.finish.specs.Claims.{FinishesAt}
 use Rattle.run.specs.Run.{runRules, runAnswer, Ran}
 
--- a run is done, with a finish tick for each record, exactly when the check accepts the order and the build, and the script is accepted
+-- a run is done, with a finish tick for each record, exactly when every rule of the check holds and the script is accepted
 abbrev pub RunDoneExactly : Type 0
 RunDoneExactly = (order build script : List ℕ) (places : ℕ) →
-    (runAnswer order build script places ≡ Done (recordsIn script)) ↔ ((checkAnswer order build ≡ Done 0) × ScriptAccepted (orderAt order) script places)
+    (runAnswer order build script places ≡ Done (recordsIn script)) ↔ (EveryRule order build × ScriptAccepted (orderAt order) script places)
 
 -- "the statement leaves one possible number, place, count": one answer is right, by the rule that is broken first, and it is the run's
 abbrev pub OneRunAnswer : Type 0

@@ -3,6 +3,8 @@ use Prim.Native.Nat.{ℕ}
 use mathlib.Core.Path.{_≡_}
 use mathlib.Core.List.{List, _++_}
 use lib.ListN.{length}
+use Rattle.model.specs.declared.order.Order.{Order}
+use Rattle.model.specs.declared.build.Build.{Build}
 use Rattle.model.specs.declared.answer.Answer.{Answer}
 use Rattle.model.specs.Answer.{outputAfter}
 use Rattle.model.specs.Rules.{Rule, firstBroken}
@@ -26,6 +28,11 @@ runTicks order build script = finishTicks (orderAt order) (buildAt build) (scrip
 -- "On refusal the output is unchanged; on success only the counted front changes."
 unfoldable pub runOutput : (order build script output : List ℕ) → List ℕ
 runOutput order build script output = outputAfter (runAnswer order build script (length output)) (runTicks order build script) output
+
+-- 40 to 46 of an order and a build that the check accepts, and the finish ticks where they hold
+pub record RanScript (o : Order) (b : Build) (script output : List ℕ) (answer : Answer) (after : List ℕ) : Type 0 where
+  pub script-answer : answer ≡ firstBroken (recordsIn script) (scriptRules o script (length output))
+  pub script-output : after ≡ outputAfter answer (finishTicks o b (scriptOf script)) output
 
 -- what a run promises
 pub record Ran (order build script output : List ℕ) (answer : Answer) (after : List ℕ) : Type 0 where

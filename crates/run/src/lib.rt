@@ -3,12 +3,12 @@ use model::Answer;
 use model::Build;
 use model::Order;
 use model::Release;
-ghost use Rattle.run.specs.Run.{Ran};
-ghost use Rattle.run.specs.Checked.{CheckedBuild, RanScript};
+ghost use Rattle.inspect.specs.Claims.{AcceptedBuild};
+ghost use Rattle.run.specs.Run.{RanScript, Ran};
 
 // 40 to 46 and the finish ticks, of an order and a build that were checked.
 fn run_checked(order: Order, build: Build, script: &[u8], out: &mut [u32]) -> Answer
-    requires { ⌜ CheckedBuild order build ⌝ }
+    requires { ⌜ AcceptedBuild order build ⌝ }
     ensures { λ r. ⌜ RanScript order build (now (script .entry)) (now (out .entry)) r (now (out .exit)) ⌝ }
 {
     let mut keys = [0u32; Release::MOST];

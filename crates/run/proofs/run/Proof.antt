@@ -1,6 +1,6 @@
 use borrow.Author.Needs.{needs}
 use denote.Ref.{now}
-use Rattle.run.proofs.Chain.{handed-checked, ran-not, ran-handed}
+use Rattle.run.proofs.Chain.{handed-accepted, ran-not, ran-handed}
 use Rattle.run.proofs.run.Statement.{statement}
 use Rattle.run.proofs.run.Tie as tie
 
@@ -17,7 +17,7 @@ run-checked-requires : tie.Need-run-checked-requires
 run-checked-requires c κs =
     let a = c .before .before .before .before .before .before .before .before .args in
     let handed = c .before .before .before .check-both in
-    handed-checked (now (a .order)) (now (a .build)) (handed .result) (handed .ensures) (c .before .enum-told .given .1)
+    handed-accepted (now (a .order)) (now (a .build)) (handed .result) (handed .ensures) (c .before .enum-told .given .1)
 
 returns : tie.Need-returns
 returns c =
