@@ -1,0 +1,2 @@
+pub mod Spots
+pub mod Stretches
