@@ -1,2 +1,2 @@
-pub mod Spots
 pub mod Stretches
+pub mod Rules
