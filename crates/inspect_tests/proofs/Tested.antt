@@ -15,12 +15,13 @@ use Rattle.trial.specs.Known.{ofRank, Apart, Bounds, verdictAt}
 use Rattle.trial.proofs.Testing.{put-own, put-others, only-put, bounds-put}
 use Rattle.inspect_tests.specs.Results.{TestedRanks}
 
-module _ (rows keys : List ℕ) (count : ℕ) (apart : Apart keys count) (worsts₀ : List ℕ) where
-  pub ranks-none : (lasts : List ℕ) → Bounds rows keys count lasts → length worsts₀ ≡ mostTasks → TestedRanks rows keys count 0 worsts₀ lasts worsts₀
-  ranks-none lasts known places = record { bounds = known; places = places; responses = λ r l. absurd (omega arith); other-worsts = λ j outside. refl }
+module _ (rows keys : List ℕ) (count : ℕ) (apart : Apart keys count) (lasts₀ worsts₀ : List ℕ) where
+  pub ranks-none : Bounds rows keys count lasts₀ → length worsts₀ ≡ mostTasks → TestedRanks rows keys count 0 lasts₀ worsts₀ lasts₀ worsts₀
+  ranks-none known places =
+      record { bounds = known; places = places; responses = λ r l. absurd (omega arith); other-lasts = λ j outside. refl; other-worsts = λ j outside. refl }
 
-  pub ranks-more : (rank : ℕ) (lasts worsts : List ℕ) → rank < count → TestedRanks rows keys count rank worsts₀ lasts worsts →
-      (t : Tested) → TestedAs rows rank (blockingIn rows count rank) t → TestedRanks rows keys count (rank + 1) worsts₀ (set lasts (numberAt keys rank) (t .last)) (set worsts (numberAt keys rank) (t .worst))
+  pub ranks-more : (rank : ℕ) (lasts worsts : List ℕ) → rank < count → TestedRanks rows keys count rank lasts₀ worsts₀ lasts worsts →
+      (t : Tested) → TestedAs rows rank (blockingIn rows count rank) t → TestedRanks rows keys count (rank + 1) lasts₀ worsts₀ (set lasts (numberAt keys rank) (t .last)) (set worsts (numberAt keys rank) (t .worst))
   ranks-more rank lasts worsts inside known t is =
       record {
         bounds = bounds-put rows keys count lasts rank (t .last) apart inside (is .near) (is .unmet) (known .bounds);
@@ -29,5 +30,6 @@ module _ (rows keys : List ℕ) (count : ℕ) (apart : Apart keys count) (worsts
           | yes same ↦ ap (ofRank keys (set worsts (numberAt keys rank) (t .worst))) same ∙ put-own keys worsts rank (t .worst) (known .places) ∙ is .worst ∙ ap (λ (x : ℕ). responseOf (verdictAt rows count x)) (sym same)
           | no other ↦ put-others keys worsts rank (t .worst) count r apart inside (omega (arith, inside, l, other)) other ∙ known .responses r (omega (arith, l, other))
         ];
+        other-lasts = only-put keys lasts rank (t .last) 0 lasts₀ (omega arith) (known .other-lasts);
         other-worsts = only-put keys worsts rank (t .worst) 0 worsts₀ (omega arith) (known .other-worsts);
       }

@@ -43,10 +43,11 @@ pub record OpenBelow (o : Order) (b : Build) (i last : ℕ) : Type 0 where
   pub unmet : UnmetBelow (λ w. higherWork o (membersOf b (homeOf b i)) i w + workBy (taskOf o i) w) (blocking o (membersOf b (homeOf b i)) i) last
 
 -- the ranks before this one tested: by number their worst responses, 0 of one that does not pass, and ticks before which windows do not close
-pub record TestedRanks (rows keys : List ℕ) (count to : ℕ) (worsts lasts′ worsts′ : List ℕ) : Type 0 where
+pub record TestedRanks (rows keys : List ℕ) (count to : ℕ) (lasts worsts lasts′ worsts′ : List ℕ) : Type 0 where
   pub bounds : Bounds rows keys count lasts′
   pub places : length worsts′ ≡ mostTasks
   pub responses : (r : ℕ) → r < to → ofRank keys worsts′ r ≡ responseOf (verdictAt rows count r)
+  pub other-lasts : OnlyRanks keys 0 to lasts lasts′
   pub other-worsts : OnlyRanks keys 0 to worsts worsts′
 
 -- the tasks before this place of the line tested, of whatever order and build the line is; a partition ends there

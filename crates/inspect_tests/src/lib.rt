@@ -34,7 +34,7 @@ fn test_members(
     worsts: &mut [u32; Order::MOST_TASKS],
 )
     requires { ⌜ RowsFit (now rows) count × Apart (now keys) count × Bounds (now rows) (now keys) count (now lasts) × (length (now worsts) ≡ mostTasks) ⌝ }
-    ensures { λ r. ⌜ TestedRanks (now (rows .entry)) (now (keys .entry)) count count (now (worsts .entry)) (now (lasts .exit)) (now (worsts .exit)) ⌝ }
+    ensures { λ r. ⌜ TestedRanks (now (rows .entry)) (now (keys .entry)) count count (now (lasts .entry)) (now (worsts .entry)) (now (lasts .exit)) (now (worsts .exit)) ⌝ }
 {
     let mut rank: usize = 0;
     while rank < count {

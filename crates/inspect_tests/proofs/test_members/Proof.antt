@@ -10,7 +10,7 @@ use Rattle.inspect_tests.proofs.test_members.Statement.{statement}
 use Rattle.inspect_tests.proofs.test_members.Tie as tie
 
 abbrev Inv-loop : tie.InvT-loop
-Inv-loop rows keys count lasts₀ worsts₀ rank₀ lasts worsts rank = (rank ≤ count) × TestedRanks rows keys count rank worsts₀ lasts worsts
+Inv-loop rows keys count lasts₀ worsts₀ rank₀ lasts worsts rank = (rank ≤ count) × TestedRanks rows keys count rank lasts₀ worsts₀ lasts worsts
 
 abbrev μ-loop : tie.MeasureT-loop
 μ-loop rows keys count lasts₀ worsts₀ rank₀ lasts worsts rank = count - rank
@@ -18,7 +18,7 @@ abbrev μ-loop : tie.MeasureT-loop
 loop-holds : tie.Need-loop-holds Inv-loop μ-loop
 loop-holds c =
     let a = c .args in
-    (omega arith, ranks-none (a .rows .now) (a .keys .now) (a .count) (c .pre .1) (a .worsts .now) (a .lasts .now) (c .pre .2) (c .pre .3))
+    (omega arith, ranks-none (a .rows .now) (a .keys .now) (a .count) (c .pre .1) (a .lasts .now) (a .worsts .now) (c .pre .2) (c .pre .3))
 
 test-rank-requires : tie.Need-test-rank-requires Inv-loop μ-loop
 test-rank-requires c κs =
@@ -60,14 +60,14 @@ loop-again c =
     let a = s .args in
     let here = c .before .before .before .before .loop-test .taken in
     (omega (arith, here),
-    subst (λ (n : ℕ). TestedRanks (a .rows .now) (a .keys .now) (a .count) (w .loop .rank + 1) (a .worsts .now) (set (w .loop .lasts) n (tested .result .last)) (set (w .loop .worsts) n (tested .result .worst))) (sym (c .number-in .ensures))
-    (ranks-more (a .rows .now) (a .keys .now) (a .count) (s .pre .1) (a .worsts .now) (w .loop .rank) (w .loop .lasts) (w .loop .worsts) here (w .loop .inv .1) (tested .result) (tested .ensures)))
+    subst (λ (n : ℕ). TestedRanks (a .rows .now) (a .keys .now) (a .count) (w .loop .rank + 1) (a .lasts .now) (a .worsts .now) (set (w .loop .lasts) n (tested .result .last)) (set (w .loop .worsts) n (tested .result .worst))) (sym (c .number-in .ensures))
+    (ranks-more (a .rows .now) (a .keys .now) (a .count) (s .pre .1) (a .lasts .now) (a .worsts .now) (w .loop .rank) (w .loop .lasts) (w .loop .worsts) here (w .loop .inv .1) (tested .result) (tested .ensures)))
 
 returns : tie.Need-returns Inv-loop μ-loop
 returns c =
     let w = c .before in
     let a = w .before .args in
-    subst (λ (n : ℕ). TestedRanks (a .rows .now) (a .keys .now) (a .count) n (a .worsts .now) (w .loop .lasts) (w .loop .worsts)) (le-antisymm (w .loop .inv .0) (c .loop-test .left)) (w .loop .inv .1)
+    subst (λ (n : ℕ). TestedRanks (a .rows .now) (a .keys .now) (a .count) n (a .lasts .now) (a .worsts .now) (w .loop .lasts) (w .loop .worsts)) (le-antisymm (w .loop .inv .0) (c .loop-test .left)) (w .loop .inv .1)
 
 pub test-members-spec : {M : Type 1} → statement M
 test-members-spec =
