@@ -2,7 +2,8 @@ use borrow.Author.Needs.{needs}
 use Prim.Native.Nat.{ℕ, _≤_, _<_}
 use mathlib.Core.Path.{_≡_, refl, sym, ap, _∙_}
 use native.Mathlib.Omega.{arith}
-use Rattle.model.specs.Limits.{mostTasks}
+use lib.ListN.{getD}
+use Rattle.model.specs.Limits.{mostTasks, memberOf}
 use Rattle.roster.proofs.Runs.{run-most}
 use Rattle.inspect_tests.specs.Results.{Lineup, ResultsOf, rightResponse, TaskThere}
 use Rattle.inspect_tests.proofs.Judged.{all-right, refused-response, refused-late, refused-window}
@@ -85,7 +86,7 @@ array-read-window-there c = few (c .before .before .before .before)
 
 -- the task that is not right, among its partition's members
 abbrev task : (c : tie.After-keys2) → let e = c .before .before .before .before in let f = e .before in let t = f .before .before .before in let r = t .before .before .before in let s = r .before .before .before in
-    TaskThere (r .row-table .result) (s .args .t3) (s .args .order .tasks) _ _ (s .args .order) (s .args .build) (f .first-wrong .result)
+    TaskThere (r .row-table .result) (s .args .t3) (s .args .order .tasks) (memberOf (s .args .build) (f .first-wrong .result)) (getD (t .test-all .result .lasts) (f .first-wrong .result) 0) (s .args .order) (s .args .build) (f .first-wrong .result)
 task c =
     let e = c .before .before .before .before in
     let t = e .before .before .before .before in
