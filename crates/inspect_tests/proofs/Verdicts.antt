@@ -62,7 +62,7 @@ module _ (o : Order) (member : Members) (i : ℕ) where
   pub worst-passing : (worst : ℕ) → IsWorst o member i worst → worst ≤ deadlineOf o i → IsPassing o member i worst
   worst-passing worst w le = record { size = w .size; window = w .window; each = w .each; attained = w .attained; in-time = le }
 
-  passing-starts : (worst : ℕ) → IsPassing o member i worst → StartsThere o member i
+  pub passing-starts : (worst : ℕ) → IsPassing o member i worst → StartsThere o member i
   passing-starts worst p = record { size = p .size; window = p .window; each = λ q l. (let r = p .each q l in (r .1 .start, r .1 .start-is)) }
 
   module _ (limits : WithinLimits o) (mine : i < o .tasks) where

@@ -1,76 +1,76 @@
-use Rattle.inspect.proofs.Chain.{partitions-stop, widths-stop, ranks-stop, tests-last}
-use mathlib.Core.Path.{sym, _∙_}
 use borrow.Author.Needs.{needs}
 use Rattle.inspect.proofs.judge_records.Statement.{statement}
 use Rattle.inspect.proofs.judge_records.Tie as tie
+use Rattle.inspect.proofs.judge_records.Reads as reads
+use Rattle.inspect.proofs.judge_records.Lts as lts
+use Rattle.inspect_members.proofs.judge_ranks.Reads as judge-ranks-reads
+use Rattle.inspect_members.proofs.judge_widths.Reads as judge-widths-reads
+use Rattle.inspect_members.proofs.line_up.Reads as line-up-reads
+use Rattle.inspect_places.proofs.judge_places.Reads as judge-places-reads
+use Rattle.inspect_tests.proofs.judge_tests.Reads as judge-tests-reads
 
-judge-partitions-requires : tie.Need-judge-partitions-requires
-judge-partitions-requires c κs = search needs
+-- src/lib.rt:27:9
+judge-places-requires : tie.Need-judge-places-requires
+judge-places-requires c κs = search needs
 
+-- src/lib.rt:28:28
 enum-known-placed : tie.Need-enum-known-placed
 enum-known-placed c = search needs
 
+-- src/lib.rt:29:9
 returns : tie.Need-returns
-returns c =
-    let p = c .before .before .before in
-    let a = p .before .args in
-    sym (partitions-stop (a .order) (a .build) (sym (p .judge-partitions .ensures) ∙ c .before .placed .given .1))
+returns c = search needs
 
 enum-told : tie.Need-enum-told
 enum-told c = search needs
 
+-- src/lib.rt:31:9
 judge-widths-requires : tie.Need-judge-widths-requires
 judge-widths-requires c κs = search needs
 
+-- src/lib.rt:32:28
 enum-known-wide : tie.Need-enum-known-wide
 enum-known-wide c = search needs
 
+-- src/lib.rt:33:9
 returns-2 : tie.Need-returns-2
-returns-2 c =
-    let w = c .before .before .before in
-    let p = w .before .before .before in
-    let a = p .before .args in
-    sym (widths-stop (a .order) (a .build) (sym (p .judge-partitions .ensures) ∙ w .before .enum-told .given .1) (sym (w .judge-widths .ensures) ∙ c .before .wide .given .1))
+returns-2 c = search needs
 
 enum-told-2 : tie.Need-enum-told-2
 enum-told-2 c = search needs
 
-partitions-of-requires : tie.Need-partitions-of-requires
-partitions-of-requires c κs = search needs
+-- src/lib.rt:35:9
+line-up-requires : tie.Need-line-up-requires
+line-up-requires c κs = search needs
 
+-- src/lib.rt:36:9
 judge-ranks-requires : tie.Need-judge-ranks-requires
 judge-ranks-requires c κs = search needs
 
+-- src/lib.rt:37:28
 enum-known-ranked : tie.Need-enum-known-ranked
 enum-known-ranked c = search needs
 
+-- src/lib.rt:38:9
 returns-3 : tie.Need-returns-3
-returns-3 c =
-    let r = c .before .before .before in
-    let w = r .before .before .before .before in
-    let p = w .before .before .before in
-    let a = p .before .args in
-    sym (ranks-stop (a .order) (a .build) (sym (p .judge-partitions .ensures) ∙ w .before .enum-told .given .1) (sym (w .judge-widths .ensures) ∙ r .before .before .enum-told2 .given .1) (sym (r .judge-ranks .ensures) ∙ c .before .ranked .given .1))
+returns-3 c = search needs
 
 enum-told-3 : tie.Need-enum-told-3
 enum-told-3 c = search needs
 
+-- src/lib.rt:40:5
 judge-tests-requires : tie.Need-judge-tests-requires
 judge-tests-requires c κs = search needs
 
+-- src/lib.rt:23:1
 returns-4 : tie.Need-returns-4
-returns-4 c =
-    let r = c .before .before .before in
-    let w = r .before .before .before .before in
-    let p = w .before .before .before in
-    let a = p .before .args in
-    c .judge-tests .ensures ∙ sym (tests-last (a .order) (a .build) (sym (p .judge-partitions .ensures) ∙ w .before .enum-told .given .1) (sym (w .judge-widths .ensures) ∙ r .before .before .enum-told2 .given .1) (sym (r .judge-ranks .ensures) ∙ c .before .enum-told3 .given .1))
+returns-4 c = search needs
 
 pub judge-records-spec : {M : Type 1} → statement M
 judge-records-spec =
     tie.close
     (tie.spec
-    judge-partitions-requires
+    judge-places-requires
     enum-known-placed
     returns
     enum-told
@@ -78,7 +78,7 @@ judge-records-spec =
     enum-known-wide
     returns-2
     enum-told-2
-    partitions-of-requires
+    line-up-requires
     judge-ranks-requires
     enum-known-ranked
     returns-3
