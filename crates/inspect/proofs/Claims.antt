@@ -8,7 +8,7 @@ use Rattle.model.specs.declared.build.Build.{Build}
 use Rattle.model.specs.declared.answer.Answer.{Answer}
 use Rattle.model.specs.declared.answer.Answer.the-variants.{Done, Refused}
 use Rattle.model.specs.Limits.{taskOf, memberOf, homeOf}
-use Rattle.model.specs.Answer.{countOf}
+use Rattle.model.specs.Answer.{answerCount}
 use Rattle.model.specs.Rules.{WithinLimits, AllKept, RightAnswer, OneRightAnswer, taskRules, rangeRules}
 use Rattle.model.proofs.Rules.{AllPass, done-pass, pass-done, pass-front, kept-append, kept-front, kept-rest, kept-at, kept-all, pass-kept, kept-pass, one-right-answer}
 use Rattle.order.specs.Order.{headerOf, orderAt, headerRules, spareRules, layoutRules, orderRules}
@@ -149,10 +149,10 @@ pub checked-unique : CheckedUnique
 checked-unique order build one other a b = a ∙ sym b
 
 pub counts-nothing : CountsNothing
-unfolding countOf RightAnswer
+unfolding answerCount RightAnswer
 counts-nothing order build = go (checkAnswer order build) refl
   where
-    go : (answer : Answer) → answer ≡ checkAnswer order build → countOf answer ≡ 0
+    go : (answer : Answer) → answer ≡ checkAnswer order build → answerCount answer ≡ 0
     go (Done count) e = one-check-answer order build (Done count) .0 e .0
     go (Refused refusal) e = refl
 

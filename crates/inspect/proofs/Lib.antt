@@ -1,3 +1,4 @@
 pub mod Chain
 pub mod Turn
 pub mod Claims
+pub mod Answers

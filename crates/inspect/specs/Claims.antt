@@ -11,7 +11,7 @@ use Rattle.model.specs.declared.answer.Answer.the-variants.{Done, Refused}
 use Rattle.model.specs.declared.answer.Refusal.{Refusal}
 use Rattle.model.specs.Limits.{mostTasks, mostProcessors, mostPartitions, taskOf, memberOf, homeOf}
 use Rattle.model.specs.Layouts.{orderLength, buildLength}
-use Rattle.model.specs.Answer.{countOf}
+use Rattle.model.specs.Answer.{answerCount}
 use Rattle.model.specs.Rules.{InRange, TaskInRange, WithinLimits, FirstOffence, RightAnswer}
 use Rattle.order.specs.Order.{headerOf, taskSpareAt, orderAt}
 use Rattle.build.specs.Build.{buildHeaderOf, buildAt}
@@ -83,7 +83,7 @@ CheckedUnique = (order build : List ℕ) (one other : Checked) → ChecksBoth or
 
 -- "(0 for the check and for an order read)"
 abbrev pub CountsNothing : Type 0
-CountsNothing = (order build : List ℕ) → countOf (checkAnswer order build) ≡ 0
+CountsNothing = (order build : List ℕ) → answerCount (checkAnswer order build) ≡ 0
 
 -- what an accepted build has for the machine and the theory: an order within the limits, and verdicts that are the records
 pub record AcceptedBuild (o : Order) (b : Build) : Type 0 where

@@ -80,15 +80,17 @@ pub fn check_both(order: &[u8], build: &[u8]) -> Checked
     if let Answer::Refused(cause) = read {
         return refused(cause);
     }
-    let laid = check_build(reading.order, build);
+    let ordered = reading.order;
+    let laid = check_build(ordered, build);
     let answer = laid.answer;
     if let Answer::Refused(cause) = answer {
         return refused(cause);
     }
+    let built = laid.build;
     Checked {
         answer,
-        order: reading.order,
-        build: laid.build,
+        order: ordered,
+        build: built,
     }
 }
 
