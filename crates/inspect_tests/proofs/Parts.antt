@@ -31,10 +31,10 @@ use Rattle.inspect_tests.specs.Results.{Lineup, verdictHere, OpenBelow, 
 
 module _ (table keys : List ℕ) (tasks : ℕ) (o : Order) (b : Build) (is : Lineup table keys tasks o b) where
   pub few-tasks : tasks ≤ mostTasks
-  few-tasks = omega (arith, is .count, is .limits .tasks .1)
+  few-tasks = omega (arith, is .in-line .count, is .in-line .limits .tasks .1)
 
   pub apart : (r s : ℕ) → r < tasks → s < tasks → numberAt keys r ≡ numberAt keys s → r ≡ s
-  apart r s l k e = numbers-apart o b (is .limits) keys (is .line) r s (omega (arith, is .count)) (omega (arith, is .count)) e
+  apart r s l k e = numbers-apart o b (is .in-line .limits) keys (is .in-line .line) r s (omega (arith, is .in-line .count)) (omega (arith, is .in-line .count)) e
 
   module _ (first home : ℕ) (from : PartFrom keys tasks first home) (own : List ℕ) (copied : (r : ℕ) → r < partSize keys tasks first home → keyAt own r ≡ keyAt keys (first + r)) where
     abbrev size : ℕ
@@ -48,8 +48,8 @@ module _ (table keys : List ℕ) (tasks : ℕ) (o : Order) (b : Build) (is : Lin
 
     pub ranked : Ranked o (membersOf b home) (numberAt own) size
     ranked =
-        subst (λ (n : ℕ). PartFrom keys n first home → ((r : ℕ) → r < partSize keys n first home → keyAt own r ≡ keyAt keys (first + r)) → Ranked o (membersOf b home) (numberAt own) (partSize keys n first home)) (is .count)
-        (λ f c. part-ranked o b (is .limits) keys (is .line) first home f own c) from copied
+        subst (λ (n : ℕ). PartFrom keys n first home → ((r : ℕ) → r < partSize keys n first home → keyAt own r ≡ keyAt keys (first + r)) → Ranked o (membersOf b home) (numberAt own) (partSize keys n first home)) (is .in-line .count)
+        (λ f c. part-ranked o b (is .in-line .limits) keys (is .in-line .line) first home f own c) from copied
 
     own-home : (r : ℕ) → r < size → homeOf b (numberAt own r) ≡ home
     unfolding membersOf
@@ -60,7 +60,7 @@ module _ (table keys : List ℕ) (tasks : ℕ) (o : Order) (b : Build) (is : Lin
 
     pub own-place : (i : ℕ) → i < tasks → homeOf b i ≡ home → (r : ℕ) × (r < size) × (numberAt own r ≡ i)
     unfolding membersOf
-    own-place i l e = place-of o (membersOf b home) (numberAt own) size ranked i (omega (arith, is .count)) (eq-eqb _ _ e)
+    own-place i l e = place-of o (membersOf b home) (numberAt own) size ranked i (omega (arith, is .in-line .count)) (eq-eqb _ _ e)
 
     pub own-apart : Apart own size
     own-apart r s l k e =
@@ -69,31 +69,31 @@ module _ (table keys : List ℕ) (tasks : ℕ) (o : Order) (b : Build) (is : Lin
     -- where the next partition begins
     pub next-ends : (r s : ℕ) → r < first + size → first + size ≤ s → s < tasks → homeIn (keyAt keys r) < homeIn (keyAt keys s)
     next-ends r s l f k =
-        let next = subst (λ (n : ℕ). PartFrom keys n first home → PartFrom keys n (first + partSize keys n first home) (home + 1)) (is .count)
-              (λ f′. part-next o (is .limits) (λ j. true) (homeOf b) keys (o .tasks) (is .line) first home f′) from in
+        let next = subst (λ (n : ℕ). PartFrom keys n first home → PartFrom keys n (first + partSize keys n first home) (home + 1)) (is .in-line .count)
+              (λ f′. part-next o (is .in-line .limits) (λ j. true) (homeOf b) keys (o .tasks) (is .in-line .line) first home f′) from in
         omega (arith, next .earlier r l, next .later s f k)
 
     module _ (rows : List ℕ) (filled : RowsInLine table own size rows) where
       rows-of : RowsOf o (numberAt own) size rows
-      rows-of r l = row-alike table rows (numberAt own r) r (taskOf o (numberAt own r)) (λ k lk. filled .each r k l lk) (is .rows .each (numberAt own r) (omega (arith, is .count, ranked .within r l)))
+      rows-of r l = row-alike table rows (numberAt own r) r (taskOf o (numberAt own r)) (λ k lk. filled .each r k l lk) (is .rows .each (numberAt own r) (omega (arith, is .in-line .count, ranked .within r l)))
 
       pub fit : RowsFit rows size
-      fit = rows-fit o (is .limits) (membersOf b home) (numberAt own) size rows ranked size-few rows-of
+      fit = rows-fit o (is .in-line .limits) (membersOf b home) (numberAt own) size rows ranked size-few rows-of
 
       pub verdict-at : (r : ℕ) → r < size → verdictAt rows size r ≡ verdictHere o b (numberAt own r)
       verdict-at r l =
-          verdict-is o (is .limits) (membersOf b home) (numberAt own) size rows ranked size-few rows-of r l
+          verdict-is o (is .in-line .limits) (membersOf b home) (numberAt own) size rows ranked size-few rows-of r l
           ∙ ap (λ (p : ℕ). verdict o (membersOf b p) (numberAt own r)) (sym (own-home r l))
 
       -- what the rows ask is what the tasks do
       blocked : (r : ℕ) → r < size → blockingIn rows size r ≡ blocking o (membersOf b (homeOf b (numberAt own r))) (numberAt own r)
       blocked r l =
-          blocking-is o (is .limits) (membersOf b home) (numberAt own) size rows ranked size-few rows-of r l
+          blocking-is o (is .in-line .limits) (membersOf b home) (numberAt own) size rows ranked size-few rows-of r l
           ∙ ap (λ (p : ℕ). blocking o (membersOf b p) (numberAt own r)) (sym (own-home r l))
 
       asks : (r w : ℕ) → r < size → askedBy rows (r + 1) w ≡ higherWork o (membersOf b (homeOf b (numberAt own r))) (numberAt own r) w + workBy (taskOf o (numberAt own r)) w
       asks r w l =
-          asked-with o (is .limits) (membersOf b home) (numberAt own) size rows ranked size-few rows-of r w l
+          asked-with o (is .in-line .limits) (membersOf b home) (numberAt own) size rows ranked size-few rows-of r w l
           ∙ ap (λ (p : ℕ). higherWork o (membersOf b p) (numberAt own r) w + workBy (taskOf o (numberAt own r)) w) (sym (own-home r l))
 
       pub unmet-rows : (r last : ℕ) → r < size → OpenBelow o b (numberAt own r) last → UnmetBelow (askedBy rows (r + 1)) (blockingIn rows size r) last
@@ -104,7 +104,7 @@ module _ (table keys : List ℕ) (tasks : ℕ) (o : Order) (b : Build) (is : Lin
 
       pub bounds-of : (lasts : List ℕ) → length lasts ≡ mostTasks → ((i : ℕ) → i < tasks → OpenBelow o b i (getD lasts i 0)) → Bounds rows own size lasts
       bounds-of lasts places still =
-          let mine : (r : ℕ) → r < size → OpenBelow o b (numberAt own r) (ofRank own lasts r) = λ r l. still (numberAt own r) (omega (arith, is .count, ranked .within r l)) in
+          let mine : (r : ℕ) → r < size → OpenBelow o b (numberAt own r) (ofRank own lasts r) = λ r l. still (numberAt own r) (omega (arith, is .in-line .count, ranked .within r l)) in
           record { places = places; near = λ r l. mine r l .near; unmet = λ r l. unmet-rows r (ofRank own lasts r) l (mine r l) }
 
       module _ (lasts worsts lasts′ worsts′ : List ℕ) (tested : TestedRanks rows own size size lasts worsts lasts′ worsts′) where

@@ -52,9 +52,9 @@ pub after-all : (table keys : List ℕ) (tasks : ℕ) (first : ℕ) (lasts worst
 after-all table keys tasks first lasts worsts all known o b is =
     record {
       responses = λ i l.
-          let place = placed o b (is .limits) keys (is .line) i l in
-          subst (λ (x : ℕ). getD worsts x 0 ≡ responseOf (verdictHere o b x)) (place .2) (known .responses o b is (place .0) (omega (arith, place .1, is .count, all)));
-      still = λ i l. known .still o b is i (omega (arith, is .count));
+          let place = placed o b (is .in-line .limits) keys (is .in-line .line) i l in
+          subst (λ (x : ℕ). getD worsts x 0 ≡ responseOf (verdictHere o b x)) (place .2) (known .responses o b is (place .0) (omega (arith, place .1, is .in-line .count, all)));
+      still = λ i l. known .still o b is i (omega (arith, is .in-line .count));
     }
 
 module _ (table keys : List ℕ) (tasks first : ℕ) (lasts worsts : List ℕ) (some : SomeLineup table keys tasks) (here : first < tasks) (known : TestedBefore table keys tasks first lasts worsts) where
@@ -69,7 +69,7 @@ module _ (table keys : List ℕ) (tasks first : ℕ) (lasts worsts : List ℕ) (
       record {
         upto = omega (arith, here);
         earlier = λ r k. known .ends r first k (omega arith) here;
-        later = λ s f k. homes-rise o b (is .limits) keys (is .line) first s f (omega (arith, is .count));
+        later = λ s f k. homes-rise o b (is .in-line .limits) keys (is .in-line .line) first s f (omega (arith, is .in-line .count));
       }
 
   pub part-some : 0 < partSize keys tasks first home
@@ -133,7 +133,7 @@ module _ (table keys : List ℕ) (tasks : ℕ) (member : Member) (last : ℕ) (o
             let there : first ≡ 0 + runFrom smaller 0 tasks = omega (arith, first-is) in
             let at-first : ltb (homeIn (keyAt keys first)) (member .partition) ≡ false = ap smaller there ∙ stops in
             let least : member .partition ≤ homeIn (keyAt keys first) = ltb-false _ _ at-first in
-            omega (arith, least, homes-rise o b (is .limits) keys (is .line) first s f (omega (arith, is .count)));
+            omega (arith, least, homes-rise o b (is .in-line .limits) keys (is .in-line .line) first s f (omega (arith, is .in-line .count)));
       }
 
   module _ (own rows : List ℕ) where

@@ -9,7 +9,6 @@ use Rattle.model.specs.declared.order.Order.{Order}
 use Rattle.model.specs.declared.build.Member.{Member}
 use Rattle.model.specs.declared.build.Build.{Build}
 use Rattle.model.specs.Limits.{mostTasks, zeroMember, taskOf, memberOf, homeOf}
-use Rattle.model.specs.Rules.{WithinLimits}
 use Rattle.demand.specs.declared.Verdict.{Verdict}
 use Rattle.demand.specs.Priority.{membersOf, rank}
 use Rattle.demand.specs.Releases.{workBy}
@@ -18,15 +17,13 @@ use Rattle.asked.specs.Met.{UnmetBelow}
 use Rattle.roster.specs.Keys.{homeIn, keyAt, numberAt}
 use Rattle.roster.specs.Rows.{RowsByNumber}
 use Rattle.trial.specs.Known.{ofRank, verdictAt, Bounds, OnlyRanks}
-use Rattle.inspect_members.specs.Line.{LineOf}
+use Rattle.inspect_members.specs.Line.{LineFor}
 use Rattle.inspect_tests.specs.declared.Results.{Results}
 use Rattle.inspect_tests.specs.Rules.{windowThere}
 
 -- the rows by number and the line of keys of an order and a build
 pub record Lineup (table keys : List ℕ) (tasks : ℕ) (o : Order) (b : Build) : Type 0 where
-  pub limits : WithinLimits o
-  pub count : o .tasks ≡ tasks
-  pub line : LineOf o b keys
+  pub in-line : LineFor keys tasks o b
   pub rows : RowsByNumber o tasks table
 
 -- they are those of some order and build

@@ -55,7 +55,7 @@ line-up-requires : tie.Need-line-up-requires
 line-up-requires c κs = (c .before .before .before .before .before .before .pre .0, homes c)
 
 judge-ranks-requires : tie.Need-judge-ranks-requires
-judge-ranks-requires c κs = (c .before .before .before .before .before .before .before .pre .0, homes (c .before), c .line-up .ensures)
+judge-ranks-requires c κs = (c .before .before .before .before .before .before .before .pre .0, c .line-up .ensures)
 
 enum-known-ranked : tie.Need-enum-known-ranked
 enum-known-ranked c = search needs

@@ -16,7 +16,7 @@ lineup : (k : tie.After-keys) → let r = k .before .before in let s = r .before
 lineup k =
     let r = k .before .before in
     let s = r .before .before .before in
-    record { limits = s .pre .0; count = refl; line = s .pre .1; rows = r .row-table .ensures }
+    record { in-line = record { limits = s .pre .0; count = refl; line = s .pre .1 }; rows = r .row-table .ensures }
 
 are : (t : tie.After-test-all) → let s = t .before .before .before .before .before .before in ResultsOf (s .args .order) (s .args .build) (t .test-all .result)
 are t =
