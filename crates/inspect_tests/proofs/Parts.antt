@@ -70,7 +70,7 @@ module _ (table keys : List ℕ) (tasks : ℕ) (o : Order) (b : Build) (is : Lin
     pub next-ends : (r s : ℕ) → r < first + size → first + size ≤ s → s < tasks → homeIn (keyAt keys r) < homeIn (keyAt keys s)
     next-ends r s l f k =
         let next = subst (λ (n : ℕ). PartFrom keys n first home → PartFrom keys n (first + partSize keys n first home) (home + 1)) (is .in-line .count)
-              (λ f′. part-next o (is .in-line .limits) (λ j. true) (homeOf b) keys (o .tasks) (is .in-line .line) first home f′) from in
+        (λ f′. part-next o (is .in-line .limits) (λ j. true) (homeOf b) keys (o .tasks) (is .in-line .line) first home f′) from in
         omega (arith, next .earlier r l, next .later s f k)
 
     module _ (rows : List ℕ) (filled : RowsInLine table own size rows) where

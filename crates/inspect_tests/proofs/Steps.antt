@@ -81,11 +81,12 @@ module _ (table keys : List ℕ) (tasks first : ℕ) (lasts worsts : List ℕ) (
     needs-at copied filled =
         let o = some .0 in
         let b = some .1 in
-        let is = some .2 in
-        (fit table keys tasks o b is first home part-from own copied rows filled,
-        own-apart table keys tasks o b is first home part-from own copied,
-        bounds-of table keys tasks o b is first home part-from own copied rows filled lasts (known .lasts-places) (known .still o b is),
-        known .worsts-places)
+        let is = some .2 in (
+          fit table keys tasks o b is first home part-from own copied rows filled,
+          own-apart table keys tasks o b is first home part-from own copied,
+          bounds-of table keys tasks o b is first home part-from own copied rows filled lasts (known .lasts-places) (known .still o b is),
+          known .worsts-places,
+        )
 
     pub part-needs : (n : ℕ) → n ≡ partSize keys tasks first home → Copied keys first own n → RowsInLine table own n rows → RowsFit rows n × Apart own n × Bounds rows own n lasts × (length worsts ≡ mostTasks)
     part-needs n e = subst (λ (x : ℕ). Copied keys first own x → RowsInLine table own x rows → RowsFit rows x × Apart own x × Bounds rows own x lasts × (length worsts ≡ mostTasks)) (sym e) needs-at
@@ -95,15 +96,17 @@ module _ (table keys : List ℕ) (tasks first : ℕ) (lasts worsts : List ℕ) (
     gives-at lasts′ worsts′ copied filled tested =
         let o₀ = some .0 in
         let b₀ = some .1 in
-        let is₀ = some .2 in
-        (part-some, record {
-          upto = omega (arith, run-most (livesIn home keys) first (tasks - first), here);
-          ends = next-ends table keys tasks o₀ b₀ is₀ first home part-from own copied;
-          lasts-places = tested .bounds .places;
-          worsts-places = tested .places;
-          still = λ o b is. still-after table keys tasks o b is first home part-from own copied rows filled lasts worsts lasts′ worsts′ tested (known .still o b is);
-          responses = λ o b is. responses-after table keys tasks o b is first home part-from own copied rows filled lasts worsts lasts′ worsts′ tested (known .responses o b is);
-        })
+        let is₀ = some .2 in (
+          part-some,
+          record {
+            upto = omega (arith, run-most (livesIn home keys) first (tasks - first), here);
+            ends = next-ends table keys tasks o₀ b₀ is₀ first home part-from own copied;
+            lasts-places = tested .bounds .places;
+            worsts-places = tested .places;
+            still = λ o b is. still-after table keys tasks o b is first home part-from own copied rows filled lasts worsts lasts′ worsts′ tested (known .still o b is);
+            responses = λ o b is. responses-after table keys tasks o b is first home part-from own copied rows filled lasts worsts lasts′ worsts′ tested (known .responses o b is);
+          },
+        )
 
     pub part-gives : (n : ℕ) → n ≡ partSize keys tasks first home → (lasts′ worsts′ : List ℕ) → Copied keys first own n → RowsInLine table own n rows →
         TestedRanks rows own n n lasts worsts lasts′ worsts′ → (0 < n) × TestedBefore table keys tasks (first + n) lasts′ worsts′
@@ -146,8 +149,8 @@ module _ (table keys : List ℕ) (tasks : ℕ) (member : Member) (last : ℕ) (o
         let is = task .lineup in
         let place = own-place table keys tasks o b is first (member .partition) sought-from own copied i (task .known) (task .home) in
         let at : place .0 ≡ member .rank =
-            sym (rank-is o (membersOf b (member .partition)) (numberAt own) size (ranked table keys tasks o b is first (member .partition) sought-from own copied) (place .0) (place .1))
-            ∙ ap (rank o (membersOf b (member .partition))) (place .2) ∙ ap (λ (p : ℕ). rank o (membersOf b p) i) (sym (task .home)) ∙ task .ranks in
+        sym (rank-is o (membersOf b (member .partition)) (numberAt own) size (ranked table keys tasks o b is first (member .partition) sought-from own copied) (place .0) (place .1))
+        ∙ ap (rank o (membersOf b (member .partition))) (place .2) ∙ ap (λ (p : ℕ). rank o (membersOf b p) i) (sym (task .home)) ∙ task .ranks in
         subst (λ (r : ℕ). (r < size) × (numberAt own r ≡ i)) at (place .1, place .2)
 
     pub record Needs (n : ℕ) : Type 0 where

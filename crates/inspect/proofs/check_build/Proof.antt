@@ -28,9 +28,11 @@ judge-records-requires c κs =
     let e = c .before in
     let l = e .before .before in
     let s = l .before .before in
-    let a = s .args in
-    (s .pre, subst⁻¹ FieldsFit (build-read (a .order) (now (a .build)) (l .judge-layout .result) (l .judge-layout .ensures) (e .enum-told2 .given .1))
-    (fields-fit (a .order) (now (a .build)) (s .pre .tasks .1) (layout-passed (a .order) (now (a .build)) (l .judge-layout .result) (l .judge-layout .ensures) (e .enum-told2 .given .1))))
+    let a = s .args in (
+      s .pre,
+      subst⁻¹ FieldsFit (build-read (a .order) (now (a .build)) (l .judge-layout .result) (l .judge-layout .ensures) (e .enum-told2 .given .1))
+          (fields-fit (a .order) (now (a .build)) (s .pre .tasks .1) (layout-passed (a .order) (now (a .build)) (l .judge-layout .result) (l .judge-layout .ensures) (e .enum-told2 .given .1))),
+    )
 
 enum-known-judged : tie.Need-enum-known-judged
 enum-known-judged c = search needs

@@ -58,10 +58,11 @@ loop-again c =
     let w = c .before .before .before .before .before in
     let s = w .before in
     let a = s .args in
-    let here = c .before .before .before .before .loop-test .taken in
-    (omega (arith, here),
-    subst (λ (n : ℕ). TestedRanks (a .rows .now) (a .keys .now) (a .count) (w .loop .rank + 1) (a .lasts .now) (a .worsts .now) (set (w .loop .lasts) n (tested .result .last)) (set (w .loop .worsts) n (tested .result .worst))) (sym (c .number-in .ensures))
-    (ranks-more (a .rows .now) (a .keys .now) (a .count) (s .pre .1) (a .lasts .now) (a .worsts .now) (w .loop .rank) (w .loop .lasts) (w .loop .worsts) here (w .loop .inv .1) (tested .result) (tested .ensures)))
+    let here = c .before .before .before .before .loop-test .taken in (
+      omega (arith, here),
+      subst (λ (n : ℕ). TestedRanks (a .rows .now) (a .keys .now) (a .count) (w .loop .rank + 1) (a .lasts .now) (a .worsts .now) (set (w .loop .lasts) n (tested .result .last)) (set (w .loop .worsts) n (tested .result .worst))) (sym (c .number-in .ensures))
+          (ranks-more (a .rows .now) (a .keys .now) (a .count) (s .pre .1) (a .lasts .now) (a .worsts .now) (w .loop .rank) (w .loop .lasts) (w .loop .worsts) here (w .loop .inv .1) (tested .result) (tested .ensures)),
+    )
 
 returns : tie.Need-returns Inv-loop μ-loop
 returns c =

@@ -49,9 +49,11 @@ members-of-requires : tie.Need-members-of-requires
 members-of-requires c κs =
     let f = c .before in
     let s = f .before in
-    let a = s .args in
-    (sought-first (a .table .now) (a .keys .now) (a .tasks) (a .member) (a .last) (s .pre .0) (s .pre .1) (s .pre .2) (s .pre .3) (f .first-of .result) (f .first-of .ensures),
-    few-tasks (a .table .now) (a .keys .now) (a .tasks) (s .pre .0) (s .pre .1) (s .pre .3 .lineup), refl)
+    let a = s .args in (
+      sought-first (a .table .now) (a .keys .now) (a .tasks) (a .member) (a .last) (s .pre .0) (s .pre .1) (s .pre .2) (s .pre .3) (f .first-of .result) (f .first-of .ensures),
+      few-tasks (a .table .now) (a .keys .now) (a .tasks) (s .pre .0) (s .pre .1) (s .pre .3 .lineup),
+      refl,
+    )
 
 fill-rows-requires : tie.Need-fill-rows-requires
 fill-rows-requires c κs =
@@ -77,11 +79,12 @@ has-window-requires c κs =
     let a = s .args in
     let n = needs-here f in
     let rank = a .member .rank in
-    let most = blocking-most _ (m .members-of .result) (n .rows-fit) rank in
-    (fit-fewer _ (m .members-of .result) (rank + 1) (omega (arith, n .inside)) (n .rows-fit),
-    omega (arith, most, k .blocking .ensures),
-    s .pre .3 .still .near,
-    subst (λ (B : ℕ). UnmetBelow (askedBy (f .fill-rows .last .1 .1 .1 .0) (rank + 1)) B (a .last)) (sym (k .blocking .ensures)) (n .unmet))
+    let most = blocking-most _ (m .members-of .result) (n .rows-fit) rank in (
+      fit-fewer _ (m .members-of .result) (rank + 1) (omega (arith, n .inside)) (n .rows-fit),
+      omega (arith, most, k .blocking .ensures),
+      s .pre .3 .still .near,
+      subst (λ (B : ℕ). UnmetBelow (askedBy (f .fill-rows .last .1 .1 .1 .0) (rank + 1)) B (a .last)) (sym (k .blocking .ensures)) (n .unmet),
+    )
 
 returns : tie.Need-returns
 returns c =
