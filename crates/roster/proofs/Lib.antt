@@ -3,3 +3,4 @@ pub mod Rowing
 pub mod Runs
 pub mod Ranks
 pub mod Tied
+pub mod Lining

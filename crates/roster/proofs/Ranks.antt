@@ -21,7 +21,7 @@ use Rattle.demand.proofs.Priority.{outranks-self, never-above}
 use Rattle.roster.specs.Ranked.{Ranked}
 
 -- a test and another, of what counts
-both-only : (a b : Bool) (x : ℕ) → only (a && b) x ≡ only a (only b x)
+pub both-only : (a b : Bool) (x : ℕ) → only (a && b) x ≡ only a (only b x)
 both-only true b x = refl
 both-only false b x = refl
 

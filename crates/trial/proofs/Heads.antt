@@ -68,7 +68,19 @@ between-more rows g rank some le =
     ap (sum (λ s. costAt rows (g - 1 + s))) e ∙ sum-first (λ s. costAt rows (g - 1 + s)) (rank - g)
     ∙ omega (arith, ap (costAt rows) (add-zero (g - 1)), sum-same (λ s. costAt rows (g - 1 + suc s)) (λ s. costAt rows (g + s)) (rank - g) (λ s l. ap (costAt rows) (omega arith)))
 
+pub each-cost : (rows : List ℕ) (count : ℕ) → RowsFit rows count → (r : ℕ) → r < count → costAt rows r ≤ 1_000_000
+unfolding cost
+each-cost rows count fit r l = cost-most rows count fit r l
+
+pub some-cost : (rows : List ℕ) (count : ℕ) → RowsFit rows count → (r : ℕ) → r < count → 0 < costAt rows r
+unfolding cost
+some-cost rows count fit r l = omega (arith, fit .each r l .cost-least)
+
 pub between-most : (rows : List ℕ) (count : ℕ) → RowsFit rows count → (g rank : ℕ) → rank ≤ count → between rows g rank ≤ (rank - g) * 1_000_000
 unfolding cost
 between-most rows count fit g rank le = sum-most (λ s. costAt rows (g + s)) 1_000_000 (rank - g) (λ s l. cost-most rows count fit (g + s) (omega arith))
 
+pub blocking-most : (rows : List ℕ) (count : ℕ) → RowsFit rows count → (rank : ℕ) → blockingIn rows count rank ≤ 1_000_000
+unfolding blockingIn cost
+blocking-most rows count fit rank =
+    omega (arith, largest-le (λ s. costAt rows (rank + 1 + s)) (count - (rank + 1)) 1_000_000 (λ s l. cost-most rows count fit (rank + 1 + s) (omega arith)))

@@ -1,1 +1,3 @@
 pub mod Heads
+pub mod Testing
+pub mod Trying

@@ -1,13 +1,12 @@
 use borrow.Author.Needs.{needs}
 use native.Mathlib.Omega.{arith}
-use mathlib.Core.Path.{_≡_, refl, sym, ap, _∙_}
+use mathlib.Core.Path.{_≡_, ap, subst}
 use Prim.Native.Nat.{ℕ, _+_, _-_, _≤_, _<_}
 use lib.ListN.{getD}
-use Rattle.model.specs.Limits.{cost}
 use Rattle.asked.specs.Rows.{costAt, askedBy, blockingIn}
 use Rattle.asked.specs.Met.{UnmetBelow}
-use Rattle.asked.proofs.Rows.{cost-most}
-use Rattle.trial.proofs.Heads.{between, between-none, between-more, between-most, head}
+use Rattle.trial.specs.Known.{ofRank}
+use Rattle.trial.proofs.Heads.{between, between-none, between-more, between-most, blocking-most, each-cost, head}
 use Rattle.trial.proofs.head_start.Statement.{statement}
 use Rattle.trial.proofs.head_start.Tie as tie
 use Rattle.trial.proofs.head_start.Reads as reads
@@ -35,7 +34,9 @@ element-copy-out-own c = search needs
 
 -- src/lib.rt:51:23
 add-covered : tie.Need-add-covered Inv-loop μ-loop
-add-covered c = search needs
+add-covered c =
+    let start = c .before in
+    record { fits = omega (arith, start .pre .2, blocking-most (start .args .rows .now) (start .args .count) (start .pre .1) (start .args .rank)) }
 
 -- src/lib.rt:53:5
 loop-holds : tie.Need-loop-holds Inv-loop μ-loop
@@ -67,15 +68,22 @@ element-copy-out-result c = search needs
 
 -- src/lib.rt:55:13
 returns : tie.Need-returns Inv-loop μ-loop
-returns c = 
+returns c =
     let start = c .before .before .before .before .before .before .before in
     let a = start .args in
     let loop = c .before .before .before .before .before .loop in
     let known = start .pre .3 in
-    let e : loop .g - 1 + 1 ≡ loop .g = omega (arith, c .before .before .before .before .loop-test .taken) in
-    let inside : loop .g - 1 < a .count = omega (arith, loop .inv .0, start .pre .0) in
-    let place : c .before .number-in .result ≡ ? = c .before .number-in .ensures in
-    ?
+    let g = loop .g in
+    let e : g - 1 + 1 ≡ g = omega (arith, c .before .before .before .before .loop-test .taken) in
+    let inside : g - 1 < a .count = omega (arith, loop .inv .0, start .pre .0, c .before .before .before .before .loop-test .taken) in
+    let is : getD (a .lasts .now) (c .before .number-in .result) 0 ≡ ofRank (a .keys .now) (a .lasts .now) (g - 1) = ap (λ (x : ℕ). getD (a .lasts .now) x 0) (c .before .number-in .ensures) in
+    let last = ofRank (a .keys .now) (a .lasts .now) (g - 1) in
+    let unmet : UnmetBelow (askedBy (a .rows .now) g) (blockingIn (a .rows .now) (a .count) (g - 1)) last =
+          subst (λ (x : ℕ). UnmetBelow (askedBy (a .rows .now) x) (blockingIn (a .rows .now) (a .count) (g - 1)) last) e (known .unmet (g - 1) inside) in
+    let own : costAt (a .rows .now) (a .rank) ≤ blockingIn (a .rows .now) (a .count) (a .rank) + 2 + between (a .rows .now) g (a .rank) =
+          omega (arith, c .before .before .before .if1 .taken, loop .inv .1, start .pre .2) in
+    let open-till = head (a .rows .now) (a .count) (start .pre .1) g (a .rank) last (c .before .before .before .before .loop-test .taken) (loop .inv .0) (start .pre .0) own unmet in
+    (omega (arith, is, known .near (g - 1) inside), λ s l. omega (arith, start .pre .2, open-till s (omega (arith, is, l))))
 
 -- src/lib.rt:57:9
 sub-g : tie.Need-sub-g Inv-loop μ-loop
@@ -95,7 +103,14 @@ element-copy-out-covered c = search needs
 
 -- src/lib.rt:58:19
 add-covered-3 : tie.Need-add-covered-3 Inv-loop μ-loop
-add-covered-3 c = search needs
+add-covered-3 c =
+    let start = c .before .before .before .before .before in
+    let a = start .args in
+    let loop = c .before .before .before .loop in
+    let m = blocking-most (a .rows .now) (a .count) (start .pre .1) (a .rank) in
+    let one : costAt (a .rows .now) (loop .g - 1) ≤ 1_000_000 = each-cost (a .rows .now) (a .count) (start .pre .1) (loop .g - 1) (omega (arith, start .pre .0, loop .inv .0, c .before .before .loop-test .taken)) in
+    let b = between-most (a .rows .now) (a .count) (start .pre .1) (loop .g) (a .rank) (omega (arith, start .pre .0)) in
+    record { fits = omega (arith, m, one, b, start .pre .0, start .pre .2, start .pre .1 .few, loop .inv .1) }
 
 -- src/lib.rt:53:5
 loop-less : tie.Need-loop-less Inv-loop μ-loop
@@ -103,11 +118,15 @@ loop-less c = search needs
 
 -- src/lib.rt:53:5
 loop-again : tie.Need-loop-again Inv-loop μ-loop
-loop-again c = search needs
+loop-again c =
+    let start = c .before .before .before .before .before in
+    let a = start .args in
+    let loop = c .before .before .before .loop in
+    (omega (arith, loop .inv .0), omega (arith, loop .inv .1, between-more (a .rows .now) (loop .g) (a .rank) (c .before .before .loop-test .taken) (loop .inv .0)))
 
 -- src/lib.rt:39:1
 returns-2 : tie.Need-returns-2 Inv-loop μ-loop
-returns-2 c = search needs
+returns-2 c = (omega arith, λ s l. absurd (omega (arith, l)))
 
 pub head-start-spec : {M : Type 1} → statement M
 head-start-spec =
