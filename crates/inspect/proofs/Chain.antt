@@ -2,34 +2,41 @@
 use mathlib.Core.Path.{_≡_, _∙_}
 use mathlib.Core.List.{List, _++_}
 use Prim.Native.Nat.{ℕ}
+use Rattle.model.specs.declared.order.Order.{Order}
+use Rattle.model.specs.declared.build.Build.{Build}
+use Rattle.model.specs.declared.answer.Answer.the-variants.{Done, Refused}
+use Rattle.model.specs.declared.answer.Refusal.{Refusal}
 use Rattle.model.specs.Rules.{Rule, firstBroken}
-use Rattle.model.proofs.Rules.{done-hold, pass, stop}
+use Rattle.model.proofs.Rules.{done-pass, pass-on, stop}
 use Rattle.order.specs.Order.{orderAt, orderRules}
-use Rattle.build.specs.Build.{buildHeaderOf, buildAt}
-use Rattle.inspect.specs.Kinds.{Order, Build, Done, Refused, Refusal}
-use Rattle.inspect.specs.Rules.{buildLayoutRules, partitionRules, widthRules, rankRules, testRules, recordRules, buildRules, checkRules, checkAnswer}
+use Rattle.build.specs.Build.{buildAt}
+use Rattle.inspect_layout.specs.Rules.{buildLayoutRules}
+use Rattle.inspect_places.specs.Rules.{placeRules}
+use Rattle.inspect_members.specs.Rules.{widthRules, rankRules}
+use Rattle.inspect_tests.specs.Rules.{testRules}
+use Rattle.inspect.specs.Rules.{recordRules, buildRules, checkRules, checkAnswer}
 
 -- a part that is done is passed
 pub go-on : (a b : List Rule) {count : ℕ} → firstBroken 0 a ≡ Done count → firstBroken 0 (a ++ b) ≡ firstBroken 0 b
-go-on a b e = pass 0 a b (done-hold 0 a e)
+go-on a b e = pass-on 0 a b (done-pass 0 a e)
 
 -- 24 to 30
 module _ (o : Order) (b : Build) where
   abbrev placed : List Rule
-  placed = partitionRules (o .processors) (b .places) (b .partitions)
+  placed = placeRules o b
 
   abbrev wide : List Rule
-  wide = widthRules o b (o .tasks)
+  wide = widthRules o b
 
   abbrev ranked : List Rule
-  ranked = rankRules o b (o .tasks)
+  ranked = rankRules o b
 
   abbrev tested : List Rule
-  tested = testRules o b (o .tasks)
+  tested = testRules o b
 
-  pub partitions-stop : {cause : Refusal} → firstBroken 0 placed ≡ Refused cause → firstBroken 0 (recordRules o b) ≡ Refused cause
+  pub places-stop : {cause : Refusal} → firstBroken 0 placed ≡ Refused cause → firstBroken 0 (recordRules o b) ≡ Refused cause
   unfolding recordRules
-  partitions-stop {cause} e = stop 0 placed (wide ++ (ranked ++ tested)) cause e
+  places-stop {cause} e = stop 0 placed (wide ++ (ranked ++ tested)) cause e
 
   pub widths-stop : {cause : Refusal} {count : ℕ} → firstBroken 0 placed ≡ Done count → firstBroken 0 wide ≡ Refused cause → firstBroken 0 (recordRules o b) ≡ Refused cause
   unfolding recordRules
@@ -45,16 +52,13 @@ module _ (o : Order) (b : Build) where
 
 -- 20 to 30
 module _ (o : Order) (s : List ℕ) where
-  abbrev layout : List Rule
-  layout = buildLayoutRules o s (buildHeaderOf s)
-
-  pub layout-stop : {cause : Refusal} → firstBroken 0 layout ≡ Refused cause → firstBroken 0 (buildRules o s) ≡ Refused cause
+  pub layout-stop : {cause : Refusal} → firstBroken 0 (buildLayoutRules o s) ≡ Refused cause → firstBroken 0 (buildRules o s) ≡ Refused cause
   unfolding buildRules
-  layout-stop {cause} e = stop 0 layout (recordRules o (buildAt s)) cause e
+  layout-stop {cause} e = stop 0 (buildLayoutRules o s) (recordRules o (buildAt s)) cause e
 
-  pub records-on : {count : ℕ} → firstBroken 0 layout ≡ Done count → firstBroken 0 (buildRules o s) ≡ firstBroken 0 (recordRules o (buildAt s))
+  pub records-on : {count : ℕ} → firstBroken 0 (buildLayoutRules o s) ≡ Done count → firstBroken 0 (buildRules o s) ≡ firstBroken 0 (recordRules o (buildAt s))
   unfolding buildRules
-  records-on e = go-on layout (recordRules o (buildAt s)) e
+  records-on e = go-on (buildLayoutRules o s) (recordRules o (buildAt s)) e
 
 -- the order's, then the build's
 module _ (order build : List ℕ) where

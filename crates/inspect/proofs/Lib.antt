@@ -1,5 +1,4 @@
-pub mod Tell
-pub mod Verdicts
+pub mod Chain
 pub mod Turn
 pub mod Claims
-pub mod Chain
+pub mod Answers

@@ -1,4 +1,2 @@
-pub mod Kinds
 pub mod Rules
-pub mod Meaning
 pub mod Claims

@@ -10,7 +10,7 @@ use Rattle.model.specs.Limits.{emptyOrder, emptyBuild}
 use Rattle.model.specs.Rules.{Rule, firstBroken}
 use Rattle.order.specs.Order.{orderAt, orderRules}
 use Rattle.build.specs.Build.{buildAt}
-use Rattle.inspect_layout.specs.Rules.{layoutRules}
+use Rattle.inspect_layout.specs.Rules.{buildLayoutRules}
 use Rattle.inspect_places.specs.Rules.{placeRules}
 use Rattle.inspect_members.specs.Rules.{widthRules, rankRules}
 use Rattle.inspect_tests.specs.Rules.{testRules}
@@ -22,7 +22,7 @@ recordRules o b = placeRules o b ++ (widthRules o b ++ (rankRules o b ++ testRul
 
 -- 20 to 30
 unfoldable pub buildRules : Order → List ℕ → List Rule
-buildRules o s = layoutRules o s ++ recordRules o (buildAt s)
+buildRules o s = buildLayoutRules o s ++ recordRules o (buildAt s)
 
 unfoldable pub checkRules : List ℕ → List ℕ → List Rule
 checkRules order build = orderRules order ++ buildRules (orderAt order) build

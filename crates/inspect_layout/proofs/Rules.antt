@@ -11,7 +11,7 @@ use Rattle.model.proofs.Rules.{equal-tells, at-most-tells}
 use Rattle.build.specs.declared.BuildHeader.{BuildHeader}
 use Rattle.build.specs.Build.{partitionSpareAt, memberSpareAt}
 use Rattle.build.specs.Taken.{partitionsClear, membersClear}
-use Rattle.inspect_layout.specs.Rules.{headerMatches, matching, clear, layoutRules}
+use Rattle.inspect_layout.specs.Rules.{headerMatches, matching, clear, buildLayoutRules}
 
 -- 21
 pub matching-tells : (o : Order) (header : BuildHeader) → Tells (matching o header)
@@ -46,6 +46,6 @@ clear-tells s partitions tasks = (
       (every-all (λ x. eqb (memberSpareAt s partitions x) 0) tasks (λ i l. eq-eqb _ _ (z .task-spares i l))),
 )
 
-pub layout-tells : (o : Order) (s : List ℕ) → TestsTell (layoutRules o s)
-unfolding layoutRules TestsTell
+pub layout-tells : (o : Order) (s : List ℕ) → TestsTell (buildLayoutRules o s)
+unfolding buildLayoutRules TestsTell
 layout-tells o s = search (at-most-tells, equal-tells, matching-tells, clear-tells)

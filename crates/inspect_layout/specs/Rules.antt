@@ -44,8 +44,8 @@ abbrev pub clear : List ℕ → (partitions tasks : ℕ) → Fact
 clear s partitions tasks = record { says = SparesZero s partitions tasks; test = partitionsClear s partitions && membersClear s partitions tasks }
 
 -- "20 to 23 in turn"
-unfoldable pub layoutRules : Order → List ℕ → List Rule
-layoutRules o s =
+unfoldable pub buildLayoutRules : Order → List ℕ → List Rule
+buildLayoutRules o s =
     let header = buildHeaderOf s in
     rule (atMost (bytesIn buildHeader) (length s)) (OfBuild BuildShort)
     ∷ rule (matching o header) (OfBuild BuildMismatch)
@@ -59,4 +59,4 @@ laidBy (Done count) b = record { answer = Done count; build = b }
 laidBy (Refused cause) b = record { answer = Refused cause; build = emptyBuild }
 
 abbrev pub LaysOut : Order → List ℕ → Laid → Type 0
-LaysOut o s laid = laid ≡ laidBy (firstBroken 0 (layoutRules o s)) (buildAt s)
+LaysOut o s laid = laid ≡ laidBy (firstBroken 0 (buildLayoutRules o s)) (buildAt s)

@@ -13,7 +13,7 @@ use Rattle.model.specs.Layouts.{buildLength}
 use Rattle.model.specs.Rules.{firstBroken}
 use Rattle.build.specs.declared.BuildHeader.{BuildHeader}
 use Rattle.build.specs.Build.{buildHeaderOf}
-use Rattle.inspect_layout.specs.Rules.{HeaderMatches, headerMatches, layoutRules}
+use Rattle.inspect_layout.specs.Rules.{HeaderMatches, headerMatches, buildLayoutRules}
 use Rattle.inspect_layout.proofs.Rules.{matching-tells}
 use Rattle.inspect_layout.proofs.judge_layout.Statement.{statement}
 use Rattle.inspect_layout.proofs.judge_layout.Tie as tie
@@ -57,7 +57,7 @@ refused-requires : tie.Need-refused-requires
 refused-requires c κs = search needs
 
 returns : tie.Need-returns
-unfolding firstBroken layoutRules
+unfolding firstBroken buildLayoutRules
 returns c = c .refused .ensures ∙ rw (lt-leb _ _ (c .before .if1 .taken))
 
 read-build-header-requires : tie.Need-read-build-header-requires
@@ -70,7 +70,7 @@ refused-requires-2 : tie.Need-refused-requires-2
 refused-requires-2 c κs = search needs
 
 returns-2 : tie.Need-returns-2
-unfolding firstBroken layoutRules
+unfolding firstBroken buildLayoutRules
 returns-2 c =
     let m = c .before .before in
     c .refused2 .ensures ∙ rw (long (read m), tested m ∙ not-true _ (c .before .if2 .taken))
@@ -91,7 +91,7 @@ refused-requires-3 : tie.Need-refused-requires-3
 refused-requires-3 c κs = search needs
 
 returns-3 : tie.Need-returns-3
-unfolding firstBroken layoutRules
+unfolding firstBroken buildLayoutRules
 returns-3 c =
     let b = c .before .before in
     let m = matching b in
@@ -107,14 +107,14 @@ refused-requires-4 : tie.Need-refused-requires-4
 refused-requires-4 c κs = search needs
 
 returns-4 : tie.Need-returns-4
-unfolding firstBroken layoutRules
+unfolding firstBroken buildLayoutRules
 returns-4 c =
     let z = c .before .before .before .before in
     let m = matching (z .before) in
     c .refused4 .ensures ∙ rw (long (read (m .before)), matches m, size-right z, sym (c .before .before .before .take-build .ensures .0) ∙ not-true _ (c .before .if4 .taken))
 
 returns-5 : tie.Need-returns-5
-unfolding firstBroken layoutRules
+unfolding firstBroken buildLayoutRules
 returns-5 c =
     let t = c .before .before .before in
     let z = t .before in
