@@ -3,3 +3,4 @@ pub mod Lines
 pub mod Above
 pub mod Marks
 pub mod Tick
+pub mod Ready

@@ -1,4 +1,12 @@
 use borrow.Author.Needs.{needs}
+use Prim.Native.Nat.{_<_}
+use mathlib.Core.Path.{refl}
+use native.Mathlib.Numerals.{add-one}
+use native.Mathlib.Omega.{arith}
+use lib.ListN.{getD}
+use denote.Ref.{now}
+use Rattle.stepper.proofs.Ranks.{bit-within}
+use Rattle.stepper.proofs.Ready.{ready-goes-on, ready-rests, ready-few, ready-lasts, ready-starts}
 use Rattle.stepper.proofs.Machine.tick.Statement.{statement}
 use Rattle.stepper.proofs.Machine.tick.Tie as tie
 use Rattle.stepper.proofs.Machine.tick.Reads as reads
@@ -17,19 +25,19 @@ sub-self c = search needs
 
 -- src/lib.rt:78:13
 returns : tie.Need-returns
-returns c = search needs
+returns c = (λ so. let a = c .before .args in ready-goes-on (a .t1) (a .releases) (now (a .keys)) (now (a .durations)) (now (a .next)) so (c .if1 .taken), add-one _, refl)
 
 -- src/lib.rt:82:13
 returns-2 : tie.Need-returns-2
-returns-2 c = search needs
+returns-2 c = (λ so. let a = c .before .before .args in ready-rests (a .t1) (a .releases) (now (a .keys)) (now (a .durations)) (now (a .next)) so (c .before .if1 .left) (c .if2 .taken), add-one _, refl)
 
 -- src/lib.rt:84:13
 lowest-requires : tie.Need-lowest-requires
-lowest-requires c κs = search needs
+lowest-requires c κs = omega (arith, c .if2 .left)
 
 -- src/lib.rt:85:31
 cast-job : tie.Need-cast-job
-cast-job c = search needs
+cast-job c = search (needs, c .lowest .ensures .0)
 
 -- src/lib.rt:85:19
 mul-job : tie.Need-mul-job
@@ -37,7 +45,7 @@ mul-job c = search needs
 
 -- src/lib.rt:85:19
 element-copy-out-job : tie.Need-element-copy-out-job
-element-copy-out-job c = search needs
+element-copy-out-job c = c .lowest .ensures .0
 
 -- src/lib.rt:86:28
 cast-younger : tie.Need-cast-younger
@@ -45,11 +53,11 @@ cast-younger c = search needs
 
 -- src/lib.rt:86:23
 mul-younger : tie.Need-mul-younger
-mul-younger c = search needs
+mul-younger c = let few : getD (c .before .before .before .before .args .t1 .oldest) (c .before .lowest .result) 0 < 1024 = let a = c .before .before .before .before .args in ready-few (a .t1) (a .releases) (now (a .keys)) (now (a .durations)) (now (a .next)) (c .before .before .before .before .pre) _ (c .before .lowest .ensures .1) in record { fits = omega (arith, few) }
 
 -- src/lib.rt:86:23
 element-copy-out-younger : tie.Need-element-copy-out-younger
-element-copy-out-younger c = search needs
+element-copy-out-younger c = let a = c .before .before .before .before .args in ready-few (a .t1) (a .releases) (now (a .keys)) (now (a .durations)) (now (a .next)) (c .before .before .before .before .pre) _ (c .before .lowest .ensures .1)
 
 -- src/lib.rt:87:21
 cast-self : tie.Need-cast-self
@@ -61,15 +69,15 @@ mul-self c = search needs
 
 -- src/lib.rt:87:9
 element-write-self : tie.Need-element-write-self
-element-write-self c = search needs
+element-write-self c = c .before .before .lowest .ensures .0
 
 -- src/lib.rt:88:57
 joined-requires : tie.Need-joined-requires
-joined-requires c κs = search needs
+joined-requires c κs = c .before .before .before .before .before .pre .laid .held .sizes .0
 
 -- src/lib.rt:88:24
 unless-stays-requires : tie.Need-unless-stays-requires
-unless-stays-requires c κs = search needs
+unless-stays-requires c κs = (c .before .before .before .lowest .ensures .0, bit-within _ _ (c .before .before .before .lowest .ensures .1 .inside))
 
 -- src/lib.rt:90:31
 cast-self-2 : tie.Need-cast-self-2
@@ -77,19 +85,19 @@ cast-self-2 c = search needs
 
 -- src/lib.rt:90:21
 mul-self-2 : tie.Need-mul-self-2
-mul-self-2 c = search needs
+mul-self-2 c = let few : getD (c .before .before .before .before .before .before .before .args .t1 .oldest) (c .before .before .before .before .lowest .result) 0 < 1024 = let a = c .before .before .before .before .before .before .before .args in ready-few (a .t1) (a .releases) (now (a .keys)) (now (a .durations)) (now (a .next)) (c .before .before .before .before .before .before .before .pre) _ (c .before .before .before .before .lowest .ensures .1) in record { fits = omega (arith, few) }
 
 -- src/lib.rt:90:21
 element-copy-out-self : tie.Need-element-copy-out-self
-element-copy-out-self c = search needs
+element-copy-out-self c = let a = c .before .before .before .before .before .before .before .args in ready-few (a .t1) (a .releases) (now (a .keys)) (now (a .durations)) (now (a .next)) (c .before .before .before .before .before .before .before .pre) _ (c .before .before .before .before .lowest .ensures .1)
 
 -- src/lib.rt:90:21
 sub-self-2 : tie.Need-sub-self-2
-sub-self-2 c = search needs
+sub-self-2 c = let a = c .before .before .before .before .before .before .before .before .args in ready-lasts (a .t1) (a .releases) (now (a .keys)) (now (a .durations)) (now (a .next)) (c .before .before .before .before .before .before .before .before .pre) _ (c .before .before .before .before .before .lowest .ensures .1)
 
 -- src/lib.rt:64:5
 returns-3 : tie.Need-returns-3
-returns-3 c = search needs
+returns-3 c = (λ so. let a = c .before .before .before .before .before .before .before .before .args in ready-starts (a .t1) (a .releases) (now (a .keys)) (now (a .durations)) (now (a .next)) so _ (c .before .before .before .before .before .lowest .ensures .1) (c .before .before .before .before .before .before .before .if1 .left) _ refl _ (c .before .before .joined .ensures) _ (c .before .unless-stays .ensures), add-one _, refl)
 
 pub tick-spec : {M : Type 1} → statement M
 tick-spec =
