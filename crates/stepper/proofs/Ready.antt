@@ -3,6 +3,7 @@ use Prim.Native.Nat.{ℕ, suc, _+_, _-_, _*_, _/_, _^_, _≤_, _<_}
 use mathlib.Core.Path.{_≡_, refl, sym, ap, _∙_, subst}
 use mathlib.Core.Bool.{Bool, true, false, _&&_}
 use mathlib.Core.List.{List}
+use mathlib.Core.Logic.{inl}
 use native.Mathlib.Decide.{decLt}
 use native.Mathlib.Numerals.{add-one}
 use native.Mathlib.Omega.{arith}
@@ -21,7 +22,7 @@ use Rattle.script.specs.Held.{Held}
 use Rattle.stepper.specs.declared.Machine.{Machine}
 use Rattle.stepper.specs.Ranks.{Lowest}
 use Rattle.stepper.specs.Lines.{recordTask, recordJoins}
-use Rattle.stepper.specs.Follow.{Follows, Seated, Ready}
+use Rattle.stepper.specs.Follow.{Follows, StartsOne, Seated, Ready}
 use Rattle.stepper.proofs.Tick.{goes-on-so, rests-so, starts-so, oldest-there}
 
 -- a record's key holds the tick at which it joins, and its task
@@ -43,18 +44,18 @@ module _ {o : Order} {b : Build} {script : List Release} {keys durations : List 
 
 module _ (m : Machine) (releases : ℕ) (keys durations next : List ℕ) (so : Ready m releases keys durations next) where
   abbrev Then : Machine → Type 0
-  Then = Follows (so .order) (so .build) (so .script) (so .partition)
+  Then then = Follows (so .order) (so .build) (so .script) (so .partition) then × StartsOne (so .order) (so .build) (so .script) (so .partition) m then
 
   pub ready-goes-on : 0 < m .left → Then (record { tick = m .tick + 1; waiting = bitOr (m .waiting) releases; oldest = m .oldest; ahead = m .ahead; job = m .job; left = m .left - 1 })
   ready-goes-on more =
       subst (λ (t : ℕ). Then (record { tick = t; waiting = bitOr (m .waiting) releases; oldest = m .oldest; ahead = m .ahead; job = m .job; left = m .left - 1 })) (sym (add-one (m .tick)))
-      (goes-on-so (so .seated) (so .partition) m (so .follows) releases (so .due) more)
+      (goes-on-so (so .seated) (so .partition) m (so .follows) releases (so .due) more, λ k i known home there own below. inl below)
 
   pub ready-rests : m .left ≤ 0 → bitOr (m .waiting) releases ≡ 0
       → Then (record { tick = m .tick + 1; waiting = bitOr (m .waiting) releases; oldest = m .oldest; ahead = m .ahead; job = 1024; left = m .left })
   ready-rests nothing empty =
       subst (λ (t : ℕ). Then (record { tick = t; waiting = bitOr (m .waiting) releases; oldest = m .oldest; ahead = m .ahead; job = 1024; left = m .left })) (sym (add-one (m .tick)))
-      (rests-so (so .seated) (so .partition) m (so .follows) releases (so .due) (omega arith) empty)
+      (rests-so (so .seated) (so .partition) m (so .follows) releases (so .due) (omega arith) empty, λ k i known home there own below. inl below)
 
   pub ready-oldest : (r : ℕ) → Lowest (bitOr (m .waiting) releases) r → getD (m .oldest) r 0 < length (so .script)
   ready-oldest r low = oldest-there (so .seated) (so .partition) m (so .follows) releases (so .due) r low

@@ -3,7 +3,7 @@ use Prim.Native.Nat.{ℕ, zero, suc, _+_, _-_, _^_, _≤_, _<_}
 use mathlib.Core.Path.{_≡_, refl, sym, ap, _∙_, subst, subst₂}
 use mathlib.Core.Bool.{Bool, true, false, _&&_}
 use mathlib.Core.List.{List, [], _∷_, _++_}
-use mathlib.Core.Logic.{_≢_, ⊎-elim}
+use mathlib.Core.Logic.{_≢_, _⊎_, inl, inr, ⊎-elim}
 use native.Mathlib.Decide.{decLt, ℕ-discrete}
 use native.Mathlib.Omega.{arith}
 use lib.Bits.{bitOr}
@@ -28,7 +28,7 @@ use Rattle.machine.proofs.Isolation.{home-member, member-home}
 use Rattle.stepper.specs.declared.Machine.{Machine}
 use Rattle.stepper.specs.Ranks.{rankBit, Lowest}
 use Rattle.stepper.specs.Lines.{recordTask, recordJoins, NextOf, InLine}
-use Rattle.stepper.specs.Follow.{rankOf, oldestOf, Heads, ShowsRunning, Marks, Follows, ReleasedIn, Seated}
+use Rattle.stepper.specs.Follow.{rankOf, oldestOf, Heads, ShowsRunning, Marks, Follows, StartsOne, ReleasedIn, Seated}
 use Rattle.stepper.proofs.Ranks.{bit-most, bit-none, bit-left, bit-stays}
 use Rattle.stepper.proofs.Lines.{line-joined, line-passed, line-first}
 use Rattle.stepper.proofs.Above.{outranks-lower, ranks-apart}
@@ -249,6 +249,16 @@ module _ {o : Order} {b : Build} {script : List Release} (seated : Seated o b sc
               runs-so = subst (ShowsRunning script (started r younger left stays)) (sym g′) (omega (arith, e, ap (λ (y : Job). y .duration) (l .1)), l .0, own ∙ sym q, sym (ap (λ (y : Job). y .release) (l .1)));
             }
 
+    -- besides those that had, only its oldest has started
+    starts-one : (x i : ℕ) → x < o .tasks → homeOf b x ≡ p → i < length script → recordTask script i ≡ x → i < after x → (i < oldestOf b m x) ⊎ (i ≡ h)
+    starts-one x i known home there mine′ below = go (ℕ-discrete x k) (decLt i h) (decLt h i)
+      where
+        go : Dec (x ≡ k) → Dec (i < h) → Dec (h < i) → (i < oldestOf b m x) ⊎ (i ≡ h)
+        go (no q) d d′ = inl (omega (arith, after-other x known home q))
+        go (yes q) (yes l) d′ = inl (omega (arith, ap (oldestOf b m) q))
+        go (yes q) (no l) (yes g) = absurd (next .between i g (omega (arith, ap after q, after-own)) there (mine′ ∙ q))
+        go (yes q) (no l) (no g) = inr (omega arith)
+
   -- of which the lowest rank is
   pub whose : (r : ℕ) → Lowest mask r → (k : ℕ) × (rankOf b k ≡ r) × Joined k
   whose r low = let x = marks-now .only-they r (low .inside) in (x .0, x .3, (x .1, x .2, x .4, x .5))
@@ -262,7 +272,8 @@ module _ {o : Order} {b : Build} {script : List Release} (seated : Seated o b sc
   -- the oldest job of the highest-priority waiting member starts
   pub starts-so : (r : ℕ) → Lowest mask r → m .left ≡ 0 → (younger left : ℕ) (stays : Bool)
       → NextOf (λ x. x) script (recordTask script (getD (m .oldest) r 0)) (suc (getD (m .oldest) r 0)) younger
-      → left ≡ recordOf script (getD (m .oldest) r 0) .duration - 1 → stays ≡ hasJoined younger → Follows o b script p (started r younger left stays)
+      → left ≡ recordOf script (getD (m .oldest) r 0) .duration - 1 → stays ≡ hasJoined younger
+      → Follows o b script p (started r younger left stays) × StartsOne o b script p m (started r younger left stays)
   starts-so r low nothing younger left stays next e f = go r (x .1) low next e
     where
       x : (k : ℕ) × (rankOf b k ≡ r) × Joined k
@@ -272,7 +283,10 @@ module _ {o : Order} {b : Build} {script : List Release} (seated : Seated o b sc
       own-is = heads-now (x .0) (x .2 .0) (x .2 .1) .own (heads-now (x .0) (x .2 .0) (x .2 .1) .there (x .2 .2))
 
       go : (s : ℕ) → rankOf b (x .0) ≡ s → Lowest mask s → NextOf (λ x. x) script (recordTask script (getD (m .oldest) s 0)) (suc (getD (m .oldest) s 0)) younger
-          → left ≡ recordOf script (getD (m .oldest) s 0) .duration - 1 → Follows o b script p (started s younger left stays)
+          → left ≡ recordOf script (getD (m .oldest) s 0) .duration - 1
+          → Follows o b script p (started s younger left stays) × StartsOne o b script p m (started s younger left stays)
       go s q = subst (λ (s : ℕ). Lowest mask s → NextOf (λ x. x) script (recordTask script (getD (m .oldest) s 0)) (suc (getD (m .oldest) s 0)) younger
-          → left ≡ recordOf script (getD (m .oldest) s 0) .duration - 1 → Follows o b script p (started s younger left stays)) q
-          (λ low next e. starts-k (x .0) (x .2) low younger (subst (λ (y : ℕ). NextOf (λ x. x) script y (suc (oldestOf b m (x .0))) younger) own-is next) nothing left e stays f)
+          → left ≡ recordOf script (getD (m .oldest) s 0) .duration - 1 → Follows o b script p (started s younger left stays) × StartsOne o b script p m (started s younger left stays)) q
+          (λ low next e.
+          (let its = subst (λ (y : ℕ). NextOf (λ x. x) script y (suc (oldestOf b m (x .0))) younger) own-is next in
+          (starts-k (x .0) (x .2) low younger its nothing left e stays f, starts-one (x .0) (x .2) low younger its)))

@@ -2,6 +2,7 @@
 use Prim.Native.Nat.{ℕ, suc, _≤_, _<_}
 use mathlib.Core.Path.{_≡_}
 use mathlib.Core.List.{List}
+use mathlib.Core.Logic.{_⊎_}
 use lib.ListN.{length, getD}
 use Rattle.model.specs.declared.order.Order.{Order}
 use Rattle.model.specs.declared.build.Build.{Build}
@@ -50,6 +51,11 @@ pub record Follows (o : Order) (b : Build) (script : List Release) (p : ℕ) (m 
       → InLine script k (oldestOf b m k) (boxBefore o b (patternOf script) (m .tick) p .waiting k) (m .tick)
   pub marks : Marks o b script p (oldestOf b m) (m .tick) (m .waiting)
   pub runs-so : ShowsRunning script m (boxBefore o b (patternOf script) (m .tick) p .running)
+
+-- from one machine to the next at most the job that then runs has started
+abbrev pub StartsOne : Order → Build → List Release → (p : ℕ) → (m then : Machine) → Type 0
+StartsOne o b script p m then = (k i : ℕ) → k < o .tasks → homeOf b k ≡ p → i < length script → recordTask script i ≡ k → i < oldestOf b then k
+    → (i < oldestOf b m k) ⊎ (i ≡ then .job)
 
 -- the ranks are those of partition p's members that have a record which joins from one tick on and before another
 pub record ReleasedIn (b : Build) (script : List Release) (p from until ranks : ℕ) : Type 0 where

@@ -9,7 +9,7 @@ ghost use lib.Dec.{ltb};
 ghost use lib.ListN.{length, getD};
 ghost use Rattle.laws.specs.Choice.{pick};
 ghost use Rattle.stepper.specs.Ranks.{Lowest};
-ghost use Rattle.stepper.specs.Follow.{Ready, Follows};
+ghost use Rattle.stepper.specs.Follow.{Ready, Follows, StartsOne};
 
 // What a partition holds before a tick: the ranks of the members that wait, a bit each; by rank, the member's oldest
 // record that has not started; the partition's first record that has not joined; the record that runs; its time left.
@@ -69,7 +69,7 @@ impl Machine {
         next: &[u16; Release::MOST],
     ) -> Machine
         requires { ⌜ Ready self releases (now keys) (now durations) (now next) ⌝ }
-        ensures { λ r. ⌜ ((so : Ready self releases (now (keys .entry)) (now (durations .entry)) (now (next .entry))) → Follows (so .order) (so .build) (so .script) (so .partition) r) × (r .tick ≡ suc (self .tick)) × (r .ahead ≡ self .ahead) ⌝ }
+        ensures { λ r. ⌜ ((so : Ready self releases (now (keys .entry)) (now (durations .entry)) (now (next .entry))) → Follows (so .order) (so .build) (so .script) (so .partition) r × StartsOne (so .order) (so .build) (so .script) (so .partition) self r) × (r .tick ≡ suc (self .tick)) × (r .ahead ≡ self .ahead) ⌝ }
     {
         self.waiting = self.waiting | releases;
         self.tick = self.tick + 1;
