@@ -55,13 +55,28 @@ pub record Turned (o : Order) (b : Build) (script : List Release) (p : ℕ) (m t
   pub starts : StartsOne o b script p m then
   pub later : m .tick < then .tick
 
--- before tick 0 nothing waits or runs, and each member's oldest record is its first
-pub record Fresh (m : Machine) : Type 0 where
-  pub tick : m .tick ≡ 0
-  pub none-started : (k : ℕ) (o : Order) (b : Build) (script : List Release) → Unit {0}
+-- a partition's machine before its first tick, with a place for each finish tick
+pub record Begins (m : Machine) (keys durations ranks next after : List ℕ) (places : ℕ) : Type 0 where
+  pub turns : Turns m keys durations ranks next after
+  pub none-started : (i : ℕ) → i < length (turns .script) → homeOf (turns .build) (recordTask (turns .script) i) ≡ turns .partition
+      → i < oldestOf (turns .build) m (recordTask (turns .script) i) → ⊥
+  pub room : length (turns .script) ≤ places
 
 -- the finish ticks of partition p's records are written, and nothing else is changed
 pub record FinishesNoted (o : Order) (b : Build) (script : List Release) (p : ℕ) (out then : List ℕ) : Type 0 where
   pub places : length then ≡ length out
   pub own : (i : ℕ) → i < length script → homeOf b (recordTask script i) ≡ p → getD then i 0 ≡ finishOf o b script i
   pub others : (i : ℕ) → (i < length script → homeOf b (recordTask script i) ≡ p → ⊥) → getD then i 0 ≡ getD out i 0
+
+-- an accepted order and build, and a legal script of so many records with its numbers and a place for each finish tick
+pub record Runnable (o : Order) (b : Build) (records : ℕ) (keys durations : List ℕ) (places : ℕ) : Type 0 where
+  pub script : List Release
+  pub few : o .tasks ≤ mostTasks
+  pub few-partitions : b .partitions ≤ mostPartitions
+  pub homes : (k : ℕ) → k < o .tasks → homeOf b k < b .partitions
+  pub ranked : (k : ℕ) → k < o .tasks → rankOf b k ≡ rank o (membersOf b (homeOf b k)) k
+  pub legal : LegalScript o script
+  pub short : Short script
+  pub held : Held script keys durations
+  pub count : records ≡ length script
+  pub room : length script ≤ places

@@ -4,6 +4,17 @@ use model::Member;
 use model::Order;
 use model::Release;
 use stepper::Machine;
+ghost use mathlib.Core.Path.{_≡_};
+ghost use mathlib.Core.Bool.{true};
+ghost use mathlib.Core.List.{_++_};
+ghost use Prim.Native.Nat.{ℕ, _+_, _≤_, _<_};
+ghost use lib.ListN.{length, getD, set, drop};
+ghost use Rattle.laws.specs.Choice.{pick};
+ghost use Rattle.laws.specs.Joined.{filled};
+ghost use Rattle.model.specs.Limits.{zeroMember, mostTasks, mostRecords};
+ghost use Rattle.finish.specs.Finish.{finishTicks};
+ghost use Rattle.course.specs.Ahead.{Grouped, LinedUp, Seats, seatsOf, Gathers, GatheredSo};
+ghost use Rattle.course.specs.Course.{goesOn, eventOf, noted, Turns, Turned, Begins, FinishesNoted, Runnable};
 
 // Members that are released, as ranks, and the partition's next record.
 pub struct Gathered {
@@ -17,7 +28,10 @@ fn line_up(
     records: usize,
     groups: &[u32; Order::MOST_TASKS],
     next: &mut [u16; Release::MOST],
-) -> [u16; Order::MOST_TASKS] {
+) -> [u16; Order::MOST_TASKS]
+    requires { ⌜ Grouped records (now keys) (now groups) × (length (now next) ≡ mostRecords) ⌝ }
+    ensures { λ r. ⌜ ((so : Grouped records (now (keys .entry)) (now (groups .entry))) → LinedUp (so .group) (so .script) r (now (next .exit))) ⌝ }
+{
     let mut first = [1024u16; Order::MOST_TASKS];
     let mut i = records;
     while 0 < i {
@@ -30,7 +44,9 @@ fn line_up(
 }
 
 // Each task is its own group.
-fn numbers() -> [u32; Order::MOST_TASKS] {
+fn numbers() -> [u32; Order::MOST_TASKS]
+    ensures { λ r. ⌜ r ≡ filled (λ k. k) 0 mostTasks mostTasks ⌝ }
+{
     let mut numbers = [0u32; Order::MOST_TASKS];
     let mut k: usize = 0;
     while k < Order::MOST_TASKS {
@@ -40,7 +56,10 @@ fn numbers() -> [u32; Order::MOST_TASKS] {
     numbers
 }
 
-fn homes_of(members: [Member; Order::MOST_TASKS], tasks: usize) -> [u32; Order::MOST_TASKS] {
+fn homes_of(members: [Member; Order::MOST_TASKS], tasks: usize) -> [u32; Order::MOST_TASKS]
+    requires { ⌜ tasks ≤ mostTasks ⌝ }
+    ensures { λ r. ⌜ r ≡ filled (λ k. getD members k zeroMember .partition) 0 mostTasks tasks ⌝ }
+{
     let mut homes = [0u32; Order::MOST_TASKS];
     let mut k: usize = 0;
     while k < tasks {
@@ -51,7 +70,10 @@ fn homes_of(members: [Member; Order::MOST_TASKS], tasks: usize) -> [u32; Order::
     homes
 }
 
-fn ranks_of(members: [Member; Order::MOST_TASKS], tasks: usize) -> [u32; Order::MOST_TASKS] {
+fn ranks_of(members: [Member; Order::MOST_TASKS], tasks: usize) -> [u32; Order::MOST_TASKS]
+    requires { ⌜ tasks ≤ mostTasks ⌝ }
+    ensures { λ r. ⌜ r ≡ filled (λ k. getD members k zeroMember .rank) 0 mostTasks tasks ⌝ }
+{
     let mut ranks = [0u32; Order::MOST_TASKS];
     let mut k: usize = 0;
     while k < tasks {
@@ -62,6 +84,16 @@ fn ranks_of(members: [Member; Order::MOST_TASKS], tasks: usize) -> [u32; Order::
     ranks
 }
 
+// A member's first record goes to its rank.
+fn seat(oldest: &mut [u16; Order::MOST_TASKS], rank: usize, first: u16, here: bool)
+    requires { ⌜ (rank < mostTasks) × (length (now oldest) ≡ mostTasks) ⌝ }
+    ensures { λ x. ⌜ now (oldest .exit) ≡ pick here (set (now (oldest .entry)) rank first) (now (oldest .entry)) ⌝ }
+{
+    if here {
+        oldest[rank] = first;
+    }
+}
+
 // By rank, the first record of each member of a partition.
 fn oldest_of(
     first: &[u16; Order::MOST_TASKS],
@@ -69,13 +101,14 @@ fn oldest_of(
     ranks: &[u32; Order::MOST_TASKS],
     tasks: usize,
     partition: u32,
-) -> [u16; Order::MOST_TASKS] {
+) -> [u16; Order::MOST_TASKS]
+    requires { ⌜ Seats (now first) (now homes) (now ranks) tasks ⌝ }
+    ensures { λ r. ⌜ r ≡ seatsOf (now (first .entry)) (now (homes .entry)) (now (ranks .entry)) partition tasks ⌝ }
+{
     let mut oldest = [0u16; Order::MOST_TASKS];
     let mut k: usize = 0;
     while k < tasks {
-        if homes[k] == partition {
-            oldest[ranks[k] as usize] = first[k];
-        }
+        seat(&mut oldest, ranks[k] as usize, first[k], homes[k] == partition);
         k += 1;
     }
     oldest
@@ -88,7 +121,10 @@ fn gather(
     after: &[u16; Release::MOST],
     from: u16,
     tick: u32,
-) -> Gathered {
+) -> Gathered
+    requires { ⌜ Gathers (now keys) (now ranks) (now after) from tick ⌝ }
+    ensures { λ r. ⌜ ((so : Gathers (now (keys .entry)) (now (ranks .entry)) (now (after .entry)) from tick) → GatheredSo (so .build) (so .script) (so .partition) (so .tick) tick r) ⌝ }
+{
     let mut ahead = from;
     let mut set: u32 = 0;
     while stepper::joined(keys, ahead, tick) {
@@ -99,19 +135,58 @@ fn gather(
     Gathered { ranks: set, ahead }
 }
 
-// The next tick at which a job ends or, in a free partition, one joins.
-fn event(m: Machine, keys: &[u32; Release::MOST]) -> u32 {
-    if m.job < 1024 { m.tick + m.left } else { keys[m.ahead as usize] / 32 }
+// A job runs, or a record is still to join.
+fn goes_on(m: Machine) -> bool
+    ensures { λ r. ⌜ r ≡ goesOn m ⌝ }
+{
+    if m.job < 1024 { true } else { m.ahead < 1024 }
 }
 
-// The finish tick of the job that runs.
-fn note(m: Machine, out: &mut [u32]) {
-    let job = m.job as usize;
-    if job < Release::MOST {
-        out[job] = m.tick + m.left;
+// The next tick at which a job ends or, in a free partition, one joins.
+fn event(m: Machine, keys: &[u32; Release::MOST]) -> u32
+    requires { ⌜ (m .tick + m .left < 4_294_967_296) × (goesOn m ≡ true) × (length (now keys) ≡ mostRecords) ⌝ }
+    ensures { λ r. ⌜ r ≡ eventOf m (now (keys .entry)) ⌝ }
+{
+    if m.job < 1024 {
+        m.tick + m.left
+    } else {
+        keys[m.ahead as usize] / 32
     }
 }
 
+// The finish tick of the job that runs.
+fn note(m: Machine, out: &mut [u32])
+    requires { ⌜ (m .tick + m .left < 4_294_967_296) × (m .job < mostRecords → m .job < length (now out)) ⌝ }
+    ensures { λ x. ⌜ now (out .exit) ≡ noted m (now (out .entry)) ⌝ }
+{
+    if m.job < 1024 {
+        out[m.job as usize] = m.tick + m.left;
+    }
+}
+
+// On to the next event: what joins before it waits, and then comes its tick.
+fn turn(
+    mut m: Machine,
+    keys: &[u32; Release::MOST],
+    durations: &[u32; Release::MOST],
+    ranks: &[u32; Order::MOST_TASKS],
+    next: &[u16; Release::MOST],
+    after: &[u16; Release::MOST],
+) -> Machine
+    requires { ⌜ Turns m (now keys) (now durations) (now ranks) (now next) (now after) × (goesOn m ≡ true) ⌝ }
+    ensures { λ r. ⌜ ((so : Turns m (now (keys .entry)) (now (durations .entry)) (now (ranks .entry)) (now (next .entry)) (now (after .entry))) → Turned (so .order) (so .build) (so .script) (so .partition) m r) ⌝ }
+{
+    let tick = event(m, keys);
+    let before = gather(keys, ranks, after, m.ahead, tick);
+    let due = gather(keys, ranks, after, before.ahead, tick + 1);
+    m.tick = tick;
+    m.waiting = m.waiting | before.ranks;
+    m.left = 0;
+    m.ahead = due.ahead;
+    m.tick(due.ranks, keys, durations, next)
+}
+
+// The run of one partition, from event to event.
 fn run_partition(
     start: Machine,
     keys: &[u32; Release::MOST],
@@ -120,18 +195,28 @@ fn run_partition(
     next: &[u16; Release::MOST],
     after: &[u16; Release::MOST],
     out: &mut [u32],
-) {
+)
+    requires { ⌜ Begins start (now keys) (now durations) (now ranks) (now next) (now after) (length (now out)) ⌝ }
+    ensures { λ x. ⌜ ((so : Begins start (now (keys .entry)) (now (durations .entry)) (now (ranks .entry)) (now (next .entry)) (now (after .entry)) (length (now (out .entry)))) → FinishesNoted (so .turns .order) (so .turns .build) (so .turns .script) (so .turns .partition) (now (out .entry)) (now (out .exit))) ⌝ }
+{
     let mut m = start;
-    while m.job < 1024 || m.ahead < 1024 {
-        let tick = event(m, keys);
-        let before = gather(keys, ranks, after, m.ahead, tick);
-        let due = gather(keys, ranks, after, before.ahead, tick + 1);
-        m.tick = tick;
-        m.waiting = m.waiting | before.ranks;
-        m.left = 0;
-        m.ahead = due.ahead;
-        m = m.tick(due.ranks, keys, durations, next);
+    while goes_on(m) {
+        m = turn(m, keys, durations, ranks, next, after);
         note(m, out);
+    }
+}
+
+// Before tick 0.
+fn begin(oldest: [u16; Order::MOST_TASKS], ahead: u16) -> Machine
+    ensures { λ r. ⌜ r ≡ record { tick = 0; waiting = 0; oldest = oldest; ahead = ahead; job = mostRecords; left = 0 } ⌝ }
+{
+    Machine {
+        tick: 0,
+        waiting: 0,
+        oldest,
+        ahead,
+        job: 1024,
+        left: 0,
     }
 }
 
@@ -142,7 +227,10 @@ pub fn run_all(
     keys: &[u32; Release::MOST],
     durations: &[u32; Release::MOST],
     out: &mut [u32],
-) {
+)
+    requires { ⌜ Runnable order build records (now keys) (now durations) (length (now out)) ⌝ }
+    ensures { λ x. ⌜ ((so : Runnable order build records (now (keys .entry)) (now (durations .entry)) (length (now (out .entry)))) → now (out .exit) ≡ finishTicks order build (so .script) ++ drop records (now (out .entry))) ⌝ }
+{
     let tasks = order.tasks as usize;
     let members = build.members;
     let homes = homes_of(members, tasks);
@@ -156,8 +244,7 @@ pub fn run_all(
     let mut p: u32 = 0;
     while p < partitions {
         let heads = oldest_of(&oldest, &homes, &ranks, tasks, p);
-        let start = Machine { tick: 0, waiting: 0, oldest: heads, ahead: first[p as usize], job: 1024, left: 0 };
-        run_partition(start, keys, durations, &ranks, &next, &after, out);
+        run_partition(begin(heads, first[p as usize]), keys, durations, &ranks, &next, &after, out);
         p += 1;
     }
 }

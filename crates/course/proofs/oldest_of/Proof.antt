@@ -1,0 +1,91 @@
+use borrow.Author.Needs.{needs}
+use Prim.Native.Nat.{ℕ, _-_, _≤_}
+use mathlib.Core.Path.{_≡_, ap, _∙_}
+use native.Mathlib.Nat.{le-antisymm}
+use native.Mathlib.Omega.{arith}
+use denote.Ref.{now}
+use Rattle.course.specs.Ahead.{seatsOf}
+use Rattle.course.proofs.oldest_of.Statement.{statement}
+use Rattle.course.proofs.oldest_of.Tie as tie
+use Rattle.course.proofs.oldest_of.Reads as reads
+use Rattle.course.proofs.oldest_of.Lts as lts
+use Rattle.course.proofs.seat.Reads as seat-reads
+
+abbrev Inv-loop : tie.InvT-loop
+Inv-loop first homes ranks tasks partition oldest₀ k₀ oldest k = (k ≤ tasks) × (oldest ≡ seatsOf first homes ranks partition k)
+
+abbrev μ-loop : tie.MeasureT-loop
+μ-loop first homes ranks tasks partition oldest₀ k₀ oldest k = tasks - k
+
+-- src/lib.rt:110:5
+loop-holds : tie.Need-loop-holds Inv-loop μ-loop
+unfolding seatsOf
+loop-holds c = (omega arith, ?)
+
+-- src/lib.rt:111:27
+mul-seat : tie.Need-mul-seat Inv-loop μ-loop
+mul-seat c = search needs
+
+-- src/lib.rt:111:27
+element-copy-out-seat : tie.Need-element-copy-out-seat Inv-loop μ-loop
+element-copy-out-seat c = search needs
+
+-- src/lib.rt:111:27
+cast-seat : tie.Need-cast-seat Inv-loop μ-loop
+cast-seat c = search needs
+
+-- src/lib.rt:111:46
+mul-seat-2 : tie.Need-mul-seat-2 Inv-loop μ-loop
+mul-seat-2 c = search needs
+
+-- src/lib.rt:111:46
+element-copy-out-seat-2 : tie.Need-element-copy-out-seat-2 Inv-loop μ-loop
+element-copy-out-seat-2 c = search needs
+
+-- src/lib.rt:111:56
+mul-seat-3 : tie.Need-mul-seat-3 Inv-loop μ-loop
+mul-seat-3 c = search needs
+
+-- src/lib.rt:111:56
+element-copy-out-seat-3 : tie.Need-element-copy-out-seat-3 Inv-loop μ-loop
+element-copy-out-seat-3 c = search needs
+
+-- src/lib.rt:111:9
+seat-requires : tie.Need-seat-requires Inv-loop μ-loop
+seat-requires c κs = ?
+
+-- src/lib.rt:112:9
+add-k : tie.Need-add-k Inv-loop μ-loop
+add-k c = search needs
+
+-- src/lib.rt:110:5
+loop-less : tie.Need-loop-less Inv-loop μ-loop
+loop-less c = search needs
+
+-- src/lib.rt:110:5
+loop-again : tie.Need-loop-again Inv-loop μ-loop
+loop-again c = ?
+
+-- src/lib.rt:98:1
+returns : tie.Need-returns Inv-loop μ-loop
+returns c = ?
+
+pub oldest-of-spec : {M : Type 1} → statement M
+oldest-of-spec =
+    tie.close
+    (tie.spec
+    Inv-loop
+    μ-loop
+    loop-holds
+    mul-seat
+    element-copy-out-seat
+    cast-seat
+    mul-seat-2
+    element-copy-out-seat-2
+    mul-seat-3
+    element-copy-out-seat-3
+    seat-requires
+    add-k
+    loop-less
+    loop-again
+    returns)
