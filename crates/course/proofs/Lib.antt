@@ -2,3 +2,5 @@ pub mod Lines
 pub mod Gathering
 pub mod Passing
 pub mod Turning
+pub mod Seats
+pub mod Done

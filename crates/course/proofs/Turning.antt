@@ -79,10 +79,7 @@ module _ {o : Order} {b : Build} {script : List Release} (seated : Seated o b sc
       go free e = omega (arith, subst (ShowsRunning script m) e (follows .runs-so) .1)
       go (runs k a l) e = omega (arith, runs-record k a l e .in-time)
 
-module _ {m : Machine} {keys durations ranks next after : List ℕ} (so : Turns m keys durations ranks next after) where
-  abbrev event : ℕ
-  event = eventOf m keys
-
+module _ {m : Machine} {keys durations ranks next after : List ℕ} (so : Turns m keys durations ranks next after) (event : ℕ) (is-event : event ≡ eventOf m keys) where
   abbrev state : Running
   state = runningBefore (so .order) (membersOf (so .build) (so .partition)) (patternOf (so .script)) (m .tick)
 
@@ -91,7 +88,7 @@ module _ {m : Machine} {keys durations ranks next after : List ℕ} (so : Turns 
   unfolding eventOf
   event-runs k a l e =
       let was = subst (ShowsRunning (so .script) m) e (so .so-far .follows .runs-so) in
-      rw (lt-ltb (m .job) mostRecords (omega (arith, was .1, so .lined .seated .few-records))) (ap (m .tick +_) (was .0))
+      is-event ∙ rw (lt-ltb (m .job) mostRecords (omega (arith, was .1, so .lined .seated .few-records))) (ap (m .tick +_) (was .0))
 
   is-ahead : state ≡ free → goesOn m ≡ true → m .ahead < mostRecords
   unfolding goesOn
@@ -103,7 +100,7 @@ module _ {m : Machine} {keys durations ranks next after : List ℕ} (so : Turns 
   unfolding eventOf
   event-free e some =
       let was = subst (ShowsRunning (so .script) m) e (so .so-far .follows .runs-so) in
-      rw (le-ltb (m .job) mostRecords (omega (arith, was .0))) (key-joins (so .lined .seated) (so .lined .laid .held) (m .ahead) (so .so-far .ahead .there some))
+      is-event ∙ rw (le-ltb (m .job) mostRecords (omega (arith, was .0))) (key-joins (so .lined .seated) (so .lined .laid .held) (m .ahead) (so .so-far .ahead .there some))
 
   -- no record of the partition joins between the tick and that
   joined-later : m .ahead < mostRecords → (i : ℕ) → i < length (so .script) → homeOf (so .build) (recordTask (so .script) i) ≡ so .partition → m .tick ≤ recordJoins (so .script) i
@@ -132,14 +129,14 @@ module _ {m : Machine} {keys durations ranks next after : List ℕ} (so : Turns 
         go (runs k a l) e =
             omega (arith, event-runs k a l e, runs-record (so .lined .seated) (so .short) (so .partition) m (so .so-far .follows) k a l e .in-time, subst (ShowsRunning (so .script) m) e (so .so-far .follows .runs-so) .0)
 
-    pub gathers-before : Gathers keys ranks after (m .ahead) event
+    abbrev pub gathers-before : Gathers keys ranks after (m .ahead) event
     gathers-before =
         record {
           order = so .order; build = so .build; script = so .script; partition = so .partition; tick = m .tick; durations = durations; next = next;
           lined = so .lined; ahead = so .so-far .ahead; on = event-later;
         }
 
-    pub gathers-due : (before : Gathered) → GatheredSo (so .build) (so .script) (so .partition) (m .tick) event before → Gathers keys ranks after (before .ahead) (event + 1)
+    abbrev pub gathers-due : (before : Gathered) → GatheredSo (so .build) (so .script) (so .partition) (m .tick) event before → Gathers keys ranks after (before .ahead) (event + 1)
     gathers-due before is =
         record {
           order = so .order; build = so .build; script = so .script; partition = so .partition; tick = event; durations = durations; next = next;
@@ -147,7 +144,7 @@ module _ {m : Machine} {keys durations ranks next after : List ℕ} (so : Turns 
         }
 
     -- up to the event
-    passes-so : (before : Gathered) → GatheredSo (so .build) (so .script) (so .partition) (m .tick) event before → (ahead : ℕ)
+    pub passes-so : (before : Gathered) → GatheredSo (so .build) (so .script) (so .partition) (m .tick) event before → (ahead : ℕ)
         → Follows (so .order) (so .build) (so .script) (so .partition) (record { tick = event; waiting = bitOr (m .waiting) (before .ranks); oldest = m .oldest; ahead = ahead; job = m .job; left = 0 })
     passes-so before is ahead = go state refl
       where
@@ -174,7 +171,7 @@ module _ {m : Machine} {keys durations ranks next after : List ℕ} (so : Turns 
 
     module _ (before due : Gathered) (is : GatheredSo (so .build) (so .script) (so .partition) (m .tick) event before)
              (is-due : GatheredSo (so .build) (so .script) (so .partition) event (event + 1) due) where
-      pub ready : Ready (arrived before due) (due .ranks) keys durations next
+      abbrev pub ready : Ready (arrived before due) (due .ranks) keys durations next
       ready =
           record {
             order = so .order; build = so .build; script = so .script; partition = so .partition; seated = so .lined .seated; laid = so .lined .laid;
@@ -195,3 +192,20 @@ module _ {m : Machine} {keys durations ranks next after : List ℕ} (so : Turns 
             starts = starts;
             later = omega (arith, event-later);
           }
+
+    -- from what the two gatherings ensure
+    module _ (before due : Gathered) (first : (g : Gathers keys ranks after (m .ahead) event) → GatheredSo (g .build) (g .script) (g .partition) (g .tick) event before)
+             (then : (g : Gathers keys ranks after (before .ahead) (event + 1)) → GatheredSo (g .build) (g .script) (g .partition) (g .tick) (event + 1) due) where
+      pub is-before : GatheredSo (so .build) (so .script) (so .partition) (m .tick) event before
+      is-before = first gathers-before
+
+      pub is-due : GatheredSo (so .build) (so .script) (so .partition) event (event + 1) due
+      is-due = then (gathers-due before is-before)
+
+      abbrev pub ready-so : Ready (arrived before due) (due .ranks) keys durations next
+      ready-so = ready before due is-before is-due
+
+      pub turned-so : (r : Machine) → ((so′ : Ready (arrived before due) (due .ranks) keys durations next)
+          → Follows (so′ .order) (so′ .build) (so′ .script) (so′ .partition) r × StartsOne (so′ .order) (so′ .build) (so′ .script) (so′ .partition) (arrived before due) r)
+          → r .tick ≡ suc event → r .ahead ≡ due .ahead → Turned (so .order) (so .build) (so .script) (so .partition) m r
+      turned-so r ticks tick ahead = let x = ticks ready-so in turned before due is-before is-due r (x .0) (x .1) tick ahead

@@ -87,7 +87,7 @@ loop-again c = (omega (arith, c .before .before .before .loop .inv .0), λ so. l
 
 -- src/lib.rt:25:1
 returns : tie.Need-returns Inv-loop μ-loop
-returns c = ?
+returns c = λ so. let z : c .before .loop .i ≡ 0 = omega (arith, c .loop-test .left) in lined-all (so .group) (so .script) (so .few) (c .before .loop .first) (c .before .loop .next) (subst (λ (x : ℕ). LinedFrom (so .group) (so .script) x (c .before .loop .first) (c .before .loop .next)) z (c .before .loop .inv .1 so))
 
 pub line-up-spec : {M : Type 1} → statement M
 line-up-spec =

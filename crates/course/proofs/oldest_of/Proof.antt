@@ -1,6 +1,11 @@
 use borrow.Author.Needs.{needs}
 use Prim.Native.Nat.{ℕ, _-_, _≤_}
-use mathlib.Core.Path.{_≡_, ap, _∙_}
+use mathlib.Core.Path.{_≡_, refl, sym, ap, _∙_}
+use mathlib.Core.List.{List}
+use lib.Dec.{eqb}
+use lib.ListN.{length, getD, set}
+use Rattle.laws.specs.Choice.{pick}
+use Rattle.course.proofs.Seats.{seats-more, length-seats}
 use native.Mathlib.Nat.{le-antisymm}
 use native.Mathlib.Omega.{arith}
 use denote.Ref.{now}
@@ -20,7 +25,7 @@ abbrev μ-loop : tie.MeasureT-loop
 -- src/lib.rt:110:5
 loop-holds : tie.Need-loop-holds Inv-loop μ-loop
 unfolding seatsOf
-loop-holds c = (omega arith, ?)
+loop-holds c = (omega arith, refl)
 
 -- src/lib.rt:111:27
 mul-seat : tie.Need-mul-seat Inv-loop μ-loop
@@ -32,7 +37,7 @@ element-copy-out-seat c = search needs
 
 -- src/lib.rt:111:27
 cast-seat : tie.Need-cast-seat Inv-loop μ-loop
-cast-seat c = search needs
+cast-seat c = record { fits = omega (arith, c .before .before .before .before .pre .rank-few (c .before .before .before .loop .k) (c .before .before .loop-test .taken)) }
 
 -- src/lib.rt:111:46
 mul-seat-2 : tie.Need-mul-seat-2 Inv-loop μ-loop
@@ -52,7 +57,7 @@ element-copy-out-seat-3 c = search needs
 
 -- src/lib.rt:111:9
 seat-requires : tie.Need-seat-requires Inv-loop μ-loop
-seat-requires c κs = ?
+seat-requires c κs = (c .before .before .before .before .before .before .pre .rank-few (c .before .before .before .before .before .loop .k) (c .before .before .before .before .loop-test .taken), ap length (c .before .before .before .before .before .loop .inv .1) ∙ length-seats (now (c .before .before .before .before .before .before .args .first)) (now (c .before .before .before .before .before .before .args .homes)) (now (c .before .before .before .before .before .before .args .ranks)) (c .before .before .before .before .before .before .args .partition) (c .before .before .before .before .before .loop .k))
 
 -- src/lib.rt:112:9
 add-k : tie.Need-add-k Inv-loop μ-loop
@@ -64,11 +69,11 @@ loop-less c = search needs
 
 -- src/lib.rt:110:5
 loop-again : tie.Need-loop-again Inv-loop μ-loop
-loop-again c = ?
+loop-again c = (omega (arith, c .before .before .before .before .before .loop-test .taken), c .seat .ensures ∙ (ap (λ (xs : List ℕ). pick (eqb (getD (now (c .before .before .before .before .before .before .before .args .homes)) (c .before .before .before .before .before .before .loop .k) 0) (c .before .before .before .before .before .before .before .args .partition)) (set xs (getD (now (c .before .before .before .before .before .before .before .args .ranks)) (c .before .before .before .before .before .before .loop .k) 0) (getD (now (c .before .before .before .before .before .before .before .args .first)) (c .before .before .before .before .before .before .loop .k) 0)) xs) (c .before .before .before .before .before .before .loop .inv .1) ∙ sym (seats-more (now (c .before .before .before .before .before .before .before .args .first)) (now (c .before .before .before .before .before .before .before .args .homes)) (now (c .before .before .before .before .before .before .before .args .ranks)) (c .before .before .before .before .before .before .before .args .partition) (c .before .before .before .before .before .before .loop .k))))
 
 -- src/lib.rt:98:1
 returns : tie.Need-returns Inv-loop μ-loop
-returns c = ?
+returns c = c .before .loop .inv .1 ∙ ap (seatsOf (now (c .before .before .args .first)) (now (c .before .before .args .homes)) (now (c .before .before .args .ranks)) (c .before .before .args .partition)) (le-antisymm (c .before .loop .inv .0) (c .loop-test .left))
 
 pub oldest-of-spec : {M : Type 1} → statement M
 oldest-of-spec =
