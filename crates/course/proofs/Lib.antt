@@ -4,3 +4,4 @@ pub mod Passing
 pub mod Turning
 pub mod Seats
 pub mod Done
+pub mod Prepared
