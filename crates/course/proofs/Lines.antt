@@ -31,7 +31,11 @@ module _ (group : ℕ → ℕ) (script : List Release) (few : length script ≤ 
         first-places = length-replicate {A = ℕ} mostTasks 1024;
         places = places;
         first-at = λ g below. rw (all-alike 1024 mostTasks g below) (record {
-          from = omega arith; upto = omega arith; there = λ l. absurd (omega arith); own = λ l. absurd (omega arith); between = λ x a b c d. omega arith;
+          from = omega arith;
+          upto = omega arith;
+          there = λ l. absurd (omega arith);
+          own = λ l. absurd (omega arith);
+          between = λ x a b c d. omega arith;
         });
         next-at = λ x from below. absurd (omega arith);
       }
@@ -54,7 +58,11 @@ module _ (group : ℕ → ℕ) (script : List Release) (few : length script ≤ 
       first-at h below (no q) =
           let was = l .first-at h below in
           rw (getD-set-other first g h i 0 q) (record {
-            from = omega (arith, was .from); upto = was .upto; there = was .there; own = was .own; between = λ x a b c d. earlier x a b c d (ℕ-discrete x i);
+            from = omega (arith, was .from);
+            upto = was .upto;
+            there = was .there;
+            own = was .own;
+            between = λ x a b c d. earlier x a b c d (ℕ-discrete x i);
           })
         where
           earlier : (x : ℕ) → i ≤ x → x < getD first h 0 → x < length script → group (recordTask script x) ≡ h → Dec (x ≡ i) → ⊥

@@ -91,10 +91,10 @@ module _ {o : Order} {b : Build} {script : List Release} (seated : Seated o b sc
   passes-free d releases ahead e quiet due =
       let was = subst (ShowsRunning script m) e (follows .runs-so) in
       let same = quiet-ticks o (membersOf b p) (patternOf script) (m .tick) d
-          (λ later task from below mine. released-none script later task (λ i there own at. omega (arith, quiet i there (ap (homeOf b) own ∙ member-home b p task mine) (omega arith))))
-          (subst (Lasts d) (sym e) tt) in
+      (λ later task from below mine. released-none script later task (λ i there own at. omega (arith, quiet i there (ap (homeOf b) own ∙ member-home b p task mine) (omega arith))))
+      (subst (Lasts d) (sym e) tt) in
       let rest : running (m .tick + d) ≡ free = ap (λ (s : State). s .running) same ∙ ap (lowered d) e in
       follows-then (m .tick + d) releases ahead (omega arith) due
       (λ k known home. subst (λ (w : List Job). InLine script k (oldestOf b m k) w (m .tick + d)) (sym (ap (λ (s : State). s .waiting k) same))
-          (line-quiet script (m .tick) (m .tick + d) k (oldestOf b m k) (waiting (m .tick) k) (omega arith) (λ i there own from. quiet i there (ap (homeOf b) own ∙ home) from) (follows .line k known home)))
+      (line-quiet script (m .tick) (m .tick + d) k (oldestOf b m k) (waiting (m .tick) k) (omega arith) (λ i there own from. quiet i there (ap (homeOf b) own ∙ home) from) (follows .line k known home)))
       (subst (ShowsRunning script (passed (m .tick + d) releases ahead)) (sym rest) (was .0, refl))

@@ -32,7 +32,7 @@ abbrev pub first-machine : (oldest : List ℕ) → (ahead : ℕ) → Machine
 first-machine oldest ahead = record { tick = 0; waiting = 0; oldest = oldest; ahead = ahead; job = mostRecords; left = 0 }
 
 module _ {o : Order} {b : Build} {script : List Release} (seated : Seated o b script) (p : ℕ) (oldest : List ℕ) (ahead : ℕ) (places : length oldest ≡ mostTasks)
-         (oldest-at : (k : ℕ) → k < o .tasks → homeOf b k ≡ p → NextOf (λ x. x) script k 0 (getD oldest (rankOf b k) 0)) (ahead-at : NextOf (homeOf b) script p 0 ahead) where
+    (oldest-at : (k : ℕ) → k < o .tasks → homeOf b k ≡ p → NextOf (λ x. x) script k 0 (getD oldest (rankOf b k) 0)) (ahead-at : NextOf (homeOf b) script p 0 ahead) where
   pub first-follows : Follows o b script p (first-machine oldest ahead)
   unfolding stateBefore
   first-follows =
@@ -84,7 +84,12 @@ module _ {o : Order} {b : Build} {records : ℕ} {keys durations : List ℕ} {pl
       → Grouped records keys groups
   grouped groups group size at few =
       record {
-        script = so .script; group = group; count = so .count; few = so .held .few; key-places = so .held .sizes .0; group-places = size;
+        script = so .script;
+        group = group;
+        count = so .count;
+        few = so .held .few;
+        key-places = so .held .sizes .0;
+        group-places = size;
         key-task = task-of-key;
         known = λ i here. omega (arith, so .legal .known i here, so .few);
         group-at = λ i here. at (recordTask (so .script) i) (so .legal .known i here);
@@ -92,7 +97,7 @@ module _ {o : Order} {b : Build} {records : ℕ} {keys durations : List ℕ} {pl
       }
 
   module _ (numbers homes ranks : List ℕ) (tasks : ℕ) (count : tasks ≡ o .tasks) (is-numbers : numbers ≡ filled (λ k. k) 0 mostTasks mostTasks)
-           (is-homes : homes ≡ filled (λ k. getD (b .members) k zeroMember .partition) 0 mostTasks tasks) (is-ranks : ranks ≡ filled (λ k. getD (b .members) k zeroMember .rank) 0 mostTasks tasks) where
+      (is-homes : homes ≡ filled (λ k. getD (b .members) k zeroMember .partition) 0 mostTasks tasks) (is-ranks : ranks ≡ filled (λ k. getD (b .members) k zeroMember .rank) 0 mostTasks tasks) where
     pub few-tasks : tasks ≤ mostTasks
     few-tasks = omega (arith, so .few)
 
@@ -121,12 +126,19 @@ module _ {o : Order} {b : Build} {records : ℕ} {keys durations : List ℕ} {pl
             after-places = by-home .places;
             after-at = by-home .next-at;
           };
-          short = so .short; count = count; home-places = home-places; home-at = home-at; by-task = by-task; by-home = by-home;
-          few-partitions = so .few-partitions; there = so .homes; room = so .room;
+          short = so .short;
+          count = count;
+          home-places = home-places;
+          home-at = home-at;
+          by-task = by-task;
+          by-home = by-home;
+          few-partitions = so .few-partitions;
+          there = so .homes;
+          room = so .room;
         }
 
 module _ {o : Order} {b : Build} {script : List Release} {keys durations homes ranks next after oldest first : List ℕ} {tasks partitions places : ℕ}
-         (so : Prepared o b script keys durations homes ranks next after oldest first tasks partitions places) where
+    (so : Prepared o b script keys durations homes ranks next after oldest first tasks partitions places) where
   rank-few : (k : ℕ) → k < tasks → getD ranks k 0 < mostTasks
   rank-few k below =
       let known : k < o .tasks = omega (arith, so .count) in
@@ -135,7 +147,10 @@ module _ {o : Order} {b : Build} {script : List Release} {keys durations homes r
   pub seats : Seats oldest homes ranks tasks
   seats =
       record {
-        few = omega (arith, so .count, so .lined .seated .few); first-places = so .by-task .first-places; home-places = so .home-places; rank-places = so .lined .rank-places;
+        few = omega (arith, so .count, so .lined .seated .few);
+        first-places = so .by-task .first-places;
+        home-places = so .home-places;
+        rank-places = so .lined .rank-places;
         rank-few = rank-few;
       }
 
@@ -174,7 +189,12 @@ module _ {o : Order} {b : Build} {script : List Release} {keys durations homes r
     begins m e places′ same =
         record {
           turns = record {
-            order = o; build = b; script = script; partition = p; lined = so .lined; short = so .short;
+            order = o;
+            build = b;
+            script = script;
+            partition = p;
+            lined = so .lined;
+            short = so .short;
             so-far = subst (Courses o b script p) (sym e) courses;
           };
           none-started = λ i there home. subst (λ (m : Machine). i < oldestOf b m (recordTask script i) → ⊥) (sym e) (none-started i there home);

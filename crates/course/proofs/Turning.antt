@@ -132,15 +132,31 @@ module _ {m : Machine} {keys durations ranks next after : List ℕ} (so : Turns 
     abbrev pub gathers-before : Gathers keys ranks after (m .ahead) event
     gathers-before =
         record {
-          order = so .order; build = so .build; script = so .script; partition = so .partition; tick = m .tick; durations = durations; next = next;
-          lined = so .lined; ahead = so .so-far .ahead; on = event-later;
+          order = so .order;
+          build = so .build;
+          script = so .script;
+          partition = so .partition;
+          tick = m .tick;
+          durations = durations;
+          next = next;
+          lined = so .lined;
+          ahead = so .so-far .ahead;
+          on = event-later;
         }
 
     abbrev pub gathers-due : (before : Gathered) → GatheredSo (so .build) (so .script) (so .partition) (m .tick) event before → Gathers keys ranks after (before .ahead) (event + 1)
     gathers-due before is =
         record {
-          order = so .order; build = so .build; script = so .script; partition = so .partition; tick = event; durations = durations; next = next;
-          lined = so .lined; ahead = is .rest; on = omega arith;
+          order = so .order;
+          build = so .build;
+          script = so .script;
+          partition = so .partition;
+          tick = event;
+          durations = durations;
+          next = next;
+          lined = so .lined;
+          ahead = is .rest;
+          on = omega arith;
         }
 
     -- up to the event
@@ -170,11 +186,16 @@ module _ {m : Machine} {keys durations ranks next after : List ℕ} (so : Turns 
     arrived before due = record { tick = event; waiting = bitOr (m .waiting) (before .ranks); oldest = m .oldest; ahead = due .ahead; job = m .job; left = 0 }
 
     module _ (before due : Gathered) (is : GatheredSo (so .build) (so .script) (so .partition) (m .tick) event before)
-             (is-due : GatheredSo (so .build) (so .script) (so .partition) event (event + 1) due) where
+        (is-due : GatheredSo (so .build) (so .script) (so .partition) event (event + 1) due) where
       abbrev pub ready : Ready (arrived before due) (due .ranks) keys durations next
       ready =
           record {
-            order = so .order; build = so .build; script = so .script; partition = so .partition; seated = so .lined .seated; laid = so .lined .laid;
+            order = so .order;
+            build = so .build;
+            script = so .script;
+            partition = so .partition;
+            seated = so .lined .seated;
+            laid = so .lined .laid;
             follows = passes-so before is (due .ahead);
             due = subst (λ (u : ℕ). ReleasedIn (so .build) (so .script) (so .partition) event u (due .ranks)) (add-one event) (is-due .due);
             soon = omega (arith, event-soon);
@@ -195,7 +216,7 @@ module _ {m : Machine} {keys durations ranks next after : List ℕ} (so : Turns 
 
     -- from what the two gatherings ensure
     module _ (before due : Gathered) (first : (g : Gathers keys ranks after (m .ahead) event) → GatheredSo (g .build) (g .script) (g .partition) (g .tick) event before)
-             (then : (g : Gathers keys ranks after (before .ahead) (event + 1)) → GatheredSo (g .build) (g .script) (g .partition) (g .tick) (event + 1) due) where
+        (then : (g : Gathers keys ranks after (before .ahead) (event + 1)) → GatheredSo (g .build) (g .script) (g .partition) (g .tick) (event + 1) due) where
       pub is-before : GatheredSo (so .build) (so .script) (so .partition) (m .tick) event before
       is-before = first gathers-before
 

@@ -108,7 +108,12 @@ fn oldest_of(
     let mut oldest = [0u16; Order::MOST_TASKS];
     let mut k: usize = 0;
     while k < tasks {
-        seat(&mut oldest, ranks[k] as usize, first[k], homes[k] == partition);
+        seat(
+            &mut oldest,
+            ranks[k] as usize,
+            first[k],
+            homes[k] == partition,
+        );
         k += 1;
     }
     oldest
@@ -244,7 +249,15 @@ pub fn run_all(
     let mut p: u32 = 0;
     while p < partitions {
         let heads = oldest_of(&oldest, &homes, &ranks, tasks, p);
-        run_partition(begin(heads, first[p as usize]), keys, durations, &ranks, &next, &after, out);
+        run_partition(
+            begin(heads, first[p as usize]),
+            keys,
+            durations,
+            &ranks,
+            &next,
+            &after,
+            out,
+        );
         p += 1;
     }
 }

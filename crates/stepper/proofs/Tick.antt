@@ -40,7 +40,7 @@ unfolding ended
 has-not-ended r k a l e over = let z : _≡_ {A = ℕ} 0 1 = cc (sym (ap ended e) ∙ over) in omega arith
 
 module _ {o : Order} {b : Build} {script : List Release} (seated : Seated o b script) (p : ℕ) (m : Machine) (follows : Follows o b script p m)
-         (releases : ℕ) (due : ReleasedIn b script p (m .tick) (suc (m .tick)) releases) where
+    (releases : ℕ) (due : ReleasedIn b script p (m .tick) (suc (m .tick)) releases) where
   abbrev tick : ℕ
   tick = m .tick
 

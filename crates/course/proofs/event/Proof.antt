@@ -16,7 +16,6 @@ ahead-few : (m : Machine) → 1024 ≤ m .job → goesOn m ≡ true → m .ahead
 unfolding goesOn
 ahead-few m free on = ltb-true (m .ahead) 1024 (rw (le-ltb (m .job) 1024 free) at on)
 
-
 -- src/lib.rt:142:9
 add-result : tie.Need-add-result
 add-result c = search needs

@@ -34,7 +34,7 @@ abbrev μ-loop : tie.MeasureT-loop
 -- what the functions before the loop have prepared
 prep : (l : tie.After-line-up2 Inv-loop μ-loop) → (so : Runnable (l .before .before .before .before .before .before .before .before .before .before .before .before .args .order) (l .before .before .before .before .before .before .before .before .before .before .before .before .args .build) (l .before .before .before .before .before .before .before .before .before .before .before .before .args .records) (now (l .before .before .before .before .before .before .before .before .before .before .before .before .args .keys)) (now (l .before .before .before .before .before .before .before .before .before .before .before .before .args .durations)) (length (now (l .before .before .before .before .before .before .before .before .before .before .before .before .args .out))))
     → Prepared (l .before .before .before .before .before .before .before .before .before .before .before .before .args .order) (l .before .before .before .before .before .before .before .before .before .before .before .before .args .build) (so .script) (now (l .before .before .before .before .before .before .before .before .before .before .before .before .args .keys)) (now (l .before .before .before .before .before .before .before .before .before .before .before .before .args .durations)) (l .before .before .before .before .before .before .before .before .homes-of .result) (l .before .before .before .before .before .before .before .ranks-of .result) (l .before .before .before .line-up .last .1 .1 .1 .0) (l .line-up2 .last .1 .1 .1 .0)
-        (l .before .before .before .line-up .result) (l .line-up2 .result) (l .before .before .before .before .before .before .before .before .before .before .before .before .args .order .tasks) (l .before .before .before .before .before .before .before .before .before .before .before .before .args .build .partitions) (length (now (l .before .before .before .before .before .before .before .before .before .before .before .before .args .out)))
+    (l .before .before .before .line-up .result) (l .line-up2 .result) (l .before .before .before .before .before .before .before .before .before .before .before .before .args .order .tasks) (l .before .before .before .before .before .before .before .before .before .before .before .before .args .build .partitions) (length (now (l .before .before .before .before .before .before .before .before .before .before .before .before .args .out)))
 prep l so =
     prepared so (l .before .before .before .before .before .before .numbers .result) (l .before .before .before .before .before .before .before .before .homes-of .result) (l .before .before .before .before .before .before .before .ranks-of .result) (l .before .before .before .before .before .before .before .before .before .before .before .before .args .order .tasks) refl (l .before .before .before .before .before .before .numbers .ensures) (l .before .before .before .before .before .before .before .before .homes-of .ensures) (l .before .before .before .before .before .before .before .ranks-of .ensures) _ _ _ _
     (l .before .before .before .line-up .ensures (by-number so (l .before .before .before .before .before .before .numbers .result) (l .before .before .before .before .before .before .before .before .homes-of .result) (l .before .before .before .before .before .before .before .ranks-of .result) (l .before .before .before .before .before .before .before .before .before .before .before .before .args .order .tasks) refl (l .before .before .before .before .before .before .numbers .ensures) (l .before .before .before .before .before .before .before .before .homes-of .ensures) (l .before .before .before .before .before .before .before .ranks-of .ensures)))

@@ -35,16 +35,17 @@ turn-requires c κs = (turns-now (c .before .before .before .before .pre) (c .be
 
 -- src/lib.rt:205:9
 note-requires : tie.Need-note-requires Inv-loop μ-loop
-note-requires c κs = 
+note-requires c κs =
     let so = c .before .before .before .before .before .before .pre in
     let t = c .before .turn .ensures (turns-now so (c .before .before .before .before .loop .m) (c .before .before .before .before .loop .inv so .0)) in
-    let r = c .before .turn .result in
-    (ends-soon (so .turns .lined .seated) (so .turns .short) (so .turns .partition) r (t .so-far .follows) (t .so-far .soon),
-    λ q. omega (arith, job-runs (so .turns .lined .seated) (so .turns .short) (so .turns .partition) r (t .so-far .follows) q .there, so .room, c .before .before .before .before .loop .inv so .1 .places))
+    let r = c .before .turn .result in (
+      ends-soon (so .turns .lined .seated) (so .turns .short) (so .turns .partition) r (t .so-far .follows) (t .so-far .soon),
+      λ q. omega (arith, job-runs (so .turns .lined .seated) (so .turns .short) (so .turns .partition) r (t .so-far .follows) q .there, so .room, c .before .before .before .before .loop .inv so .1 .places),
+    )
 
 -- src/lib.rt:203:5
 loop-less : tie.Need-loop-less Inv-loop μ-loop
-loop-less c = 
+loop-less c =
     let so = c .before .before .before .before .before .before .before .before .before .pre in
     let t = c .before .before .before .before .turn .ensures (turns-now so (c .before .before .before .before .before .before .before .loop .m) (c .before .before .before .before .before .before .before .loop .inv so .0)) in
     omega (arith, t .later, t .so-far .soon)
@@ -53,9 +54,11 @@ loop-less c =
 loop-again : tie.Need-loop-again Inv-loop μ-loop
 loop-again c = λ so.
     let was = c .before .before .before .before .before .before .before .loop .inv so in
-    let t = c .before .before .before .before .turn .ensures (turns-now so (c .before .before .before .before .before .before .before .loop .m) (was .0)) in
-    (t .so-far, subst (NotedSo (so .turns .order) (so .turns .build) (so .turns .script) (so .turns .partition) (c .before .before .before .before .turn .result) (c .before .before .before .before .before .before .before .before .before .args .out .now)) (sym (c .before .before .note .ensures))
-    (noted-more (so .turns .lined .seated) (so .turns .short) (so .turns .partition) (c .before .before .before .before .before .before .before .loop .m) (c .before .before .before .before .turn .result) (c .before .before .before .before .before .before .before .before .before .args .out .now) (c .before .before .before .before .before .before .before .loop .out) (so .room) (was .1) t))
+    let t = c .before .before .before .before .turn .ensures (turns-now so (c .before .before .before .before .before .before .before .loop .m) (was .0)) in (
+      t .so-far,
+      subst (NotedSo (so .turns .order) (so .turns .build) (so .turns .script) (so .turns .partition) (c .before .before .before .before .turn .result) (c .before .before .before .before .before .before .before .before .before .args .out .now)) (sym (c .before .before .note .ensures))
+          (noted-more (so .turns .lined .seated) (so .turns .short) (so .turns .partition) (c .before .before .before .before .before .before .before .loop .m) (c .before .before .before .before .turn .result) (c .before .before .before .before .before .before .before .before .before .args .out .now) (c .before .before .before .before .before .before .before .loop .out) (so .room) (was .1) t),
+    )
 
 -- src/lib.rt:190:1
 same-length : tie.Need-same-length Inv-loop μ-loop
