@@ -24,7 +24,7 @@ use Rattle.stepper.proofs.Ranks.{bit-none, bit-own, bit-other}
 use Rattle.stepper.proofs.Lines.{joins-rise}
 use Rattle.stepper.proofs.Marks.{bit-either, bit-one, bit-two}
 use Rattle.stepper.proofs.Ready.{key-joins}
-use Rattle.course.specs.declared.Gathered.{Gathered}
+use Rattle.course.specs.declared.turns.Gathered.{Gathered}
 use Rattle.course.specs.Ahead.{Ahead, Lined, Gathers, GatheredSo}
 
 -- the records of partition p from one to another are gathered

@@ -32,7 +32,7 @@ use Rattle.stepper.specs.Lines.{recordTask, recordJoins}
 use Rattle.stepper.specs.Follow.{ShowsRunning, Follows, StartsOne, ReleasedIn, Seated, Ready}
 use Rattle.stepper.proofs.Lines.{joins-rise}
 use Rattle.stepper.proofs.Ready.{key-joins}
-use Rattle.course.specs.declared.Gathered.{Gathered}
+use Rattle.course.specs.declared.turns.Gathered.{Gathered}
 use Rattle.course.specs.Ahead.{Ahead, Lined, Gathers, GatheredSo}
 use Rattle.course.specs.Course.{goesOn, eventOf, Courses, Turns, Turned}
 use Rattle.course.proofs.Passing.{passes-running, passes-free}

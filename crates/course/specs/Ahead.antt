@@ -12,7 +12,7 @@ use Rattle.model.specs.Limits.{mostTasks, mostRecords, homeOf}
 use Rattle.script.specs.Held.{Held}
 use Rattle.stepper.specs.Lines.{recordTask, recordJoins, NextOf}
 use Rattle.stepper.specs.Follow.{rankOf, Seated, ReleasedIn, Laid}
-use Rattle.course.specs.declared.Gathered.{Gathered}
+use Rattle.course.specs.declared.turns.Gathered.{Gathered}
 
 -- record a is partition p's first that joins at a tick or later, or mostRecords if there is none
 pub record Ahead (b : Build) (script : List Release) (p tick a : ℕ) : Type 0 where

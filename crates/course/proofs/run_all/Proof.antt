@@ -17,12 +17,12 @@ use Rattle.course.proofs.run_all.Tie as tie
 use Rattle.course.proofs.run_all.Reads as reads
 use Rattle.course.proofs.run_all.Lts as lts
 use Rattle.course.proofs.begin.Reads as begin-reads
-use Rattle.course.proofs.homes_of.Reads as homes-of-reads
-use Rattle.course.proofs.line_up.Reads as line-up-reads
-use Rattle.course.proofs.numbers.Reads as numbers-reads
-use Rattle.course.proofs.oldest_of.Reads as oldest-of-reads
-use Rattle.course.proofs.ranks_of.Reads as ranks-of-reads
-use Rattle.course.proofs.run_partition.Reads as run-partition-reads
+use Rattle.course.proofs.chains.homes_of.Reads as homes-of-reads
+use Rattle.course.proofs.chains.line_up.Reads as line-up-reads
+use Rattle.course.proofs.chains.numbers.Reads as numbers-reads
+use Rattle.course.proofs.chains.oldest_of.Reads as oldest-of-reads
+use Rattle.course.proofs.chains.ranks_of.Reads as ranks-of-reads
+use Rattle.course.proofs.turns.run_partition.Reads as run-partition-reads
 
 abbrev Inv-loop : tie.InvT-loop
 Inv-loop records keys durations out₀ tasks homes ranks next after oldest first partitions p₀ out p =

@@ -8,10 +8,10 @@ use lib.ListN.{length, getD}
 use denote.Ref.{now}
 use Rattle.course.specs.Ahead.{Gathers}
 use Rattle.course.proofs.Gathering.{GatheredTo, gathered-none, joins-before, joins-not, rank-here, goes-further, rank-few, gathered-more, gathered-all}
-use Rattle.course.proofs.gather.Statement.{statement}
-use Rattle.course.proofs.gather.Tie as tie
-use Rattle.course.proofs.gather.Reads as reads
-use Rattle.course.proofs.gather.Lts as lts
+use Rattle.course.proofs.turns.gather.Statement.{statement}
+use Rattle.course.proofs.turns.gather.Tie as tie
+use Rattle.course.proofs.turns.gather.Reads as reads
+use Rattle.course.proofs.turns.gather.Lts as lts
 use Rattle.stepper.proofs.joined.Reads as joined-reads
 use Rattle.stepper.proofs.with_rank.Reads as with-rank-reads
 

@@ -2,10 +2,10 @@ use borrow.Author.Needs.{needs}
 use Rattle.course.specs.Course.{goesOn, eventOf, noted}
 use borrow.Author.Tests.{lt-ltb, le-ltb}
 use native.Mathlib.Omega.{arith}
-use Rattle.course.proofs.note.Statement.{statement}
-use Rattle.course.proofs.note.Tie as tie
-use Rattle.course.proofs.note.Reads as reads
-use Rattle.course.proofs.note.Lts as lts
+use Rattle.course.proofs.turns.note.Statement.{statement}
+use Rattle.course.proofs.turns.note.Tie as tie
+use Rattle.course.proofs.turns.note.Reads as reads
+use Rattle.course.proofs.turns.note.Lts as lts
 
 -- src/lib.rt:154:31
 add-out : tie.Need-add-out

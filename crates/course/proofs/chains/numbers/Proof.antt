@@ -7,10 +7,10 @@ use lib.ListN.{getD}
 use Rattle.laws.specs.Joined.{filled}
 use Rattle.laws.proofs.Joined.{filled-none, filled-more}
 use Rattle.model.specs.Limits.{mostTasks, zeroMember}
-use Rattle.course.proofs.numbers.Statement.{statement}
-use Rattle.course.proofs.numbers.Tie as tie
-use Rattle.course.proofs.numbers.Reads as reads
-use Rattle.course.proofs.numbers.Lts as lts
+use Rattle.course.proofs.chains.numbers.Statement.{statement}
+use Rattle.course.proofs.chains.numbers.Tie as tie
+use Rattle.course.proofs.chains.numbers.Reads as reads
+use Rattle.course.proofs.chains.numbers.Lts as lts
 
 abbrev Inv-loop : tie.InvT-loop
 Inv-loop numbers₀ k₀ numbers k = (k ≤ mostTasks) × (numbers ≡ filled (λ k. k) 0 mostTasks k)

@@ -1,10 +1,10 @@
 use borrow.Author.Needs.{needs}
 use Rattle.course.specs.Course.{goesOn, eventOf, noted}
 use borrow.Author.Tests.{lt-ltb, le-ltb}
-use Rattle.course.proofs.goes_on.Statement.{statement}
-use Rattle.course.proofs.goes_on.Tie as tie
-use Rattle.course.proofs.goes_on.Reads as reads
-use Rattle.course.proofs.goes_on.Lts as lts
+use Rattle.course.proofs.turns.goes_on.Statement.{statement}
+use Rattle.course.proofs.turns.goes_on.Tie as tie
+use Rattle.course.proofs.turns.goes_on.Reads as reads
+use Rattle.course.proofs.turns.goes_on.Lts as lts
 
 -- src/lib.rt:130:1
 returns : tie.Need-returns

@@ -7,10 +7,10 @@ use lib.ListN.{getD}
 use Rattle.laws.specs.Joined.{filled}
 use Rattle.laws.proofs.Joined.{filled-none, filled-more}
 use Rattle.model.specs.Limits.{mostTasks, zeroMember}
-use Rattle.course.proofs.ranks_of.Statement.{statement}
-use Rattle.course.proofs.ranks_of.Tie as tie
-use Rattle.course.proofs.ranks_of.Reads as reads
-use Rattle.course.proofs.ranks_of.Lts as lts
+use Rattle.course.proofs.chains.ranks_of.Statement.{statement}
+use Rattle.course.proofs.chains.ranks_of.Tie as tie
+use Rattle.course.proofs.chains.ranks_of.Reads as reads
+use Rattle.course.proofs.chains.ranks_of.Lts as lts
 
 abbrev Inv-loop : tie.InvT-loop
 Inv-loop tasks members ranks₀ k₀ ranks k = (k ≤ tasks) × (ranks ≡ filled (λ k. getD members k zeroMember .rank) 0 mostTasks k)

@@ -6,10 +6,10 @@ use lib.ListN.{length, getD}
 use denote.Ref.{now}
 use Rattle.course.specs.Ahead.{Grouped}
 use Rattle.course.proofs.Lines.{LinedFrom, lined-none, lined-all, group-few, records-few, lined-back}
-use Rattle.course.proofs.line_up.Statement.{statement}
-use Rattle.course.proofs.line_up.Tie as tie
-use Rattle.course.proofs.line_up.Reads as reads
-use Rattle.course.proofs.line_up.Lts as lts
+use Rattle.course.proofs.chains.line_up.Statement.{statement}
+use Rattle.course.proofs.chains.line_up.Tie as tie
+use Rattle.course.proofs.chains.line_up.Reads as reads
+use Rattle.course.proofs.chains.line_up.Lts as lts
 
 abbrev Inv-loop : tie.InvT-loop
 Inv-loop keys records groups next₀ first₀ i₀ next first i = (i ≤ records) × ((so : Grouped records keys groups) → LinedFrom (so .group) (so .script) i first next)

@@ -10,11 +10,11 @@ use native.Mathlib.Nat.{le-antisymm}
 use native.Mathlib.Omega.{arith}
 use denote.Ref.{now}
 use Rattle.course.specs.Ahead.{seatsOf}
-use Rattle.course.proofs.oldest_of.Statement.{statement}
-use Rattle.course.proofs.oldest_of.Tie as tie
-use Rattle.course.proofs.oldest_of.Reads as reads
-use Rattle.course.proofs.oldest_of.Lts as lts
-use Rattle.course.proofs.seat.Reads as seat-reads
+use Rattle.course.proofs.chains.oldest_of.Statement.{statement}
+use Rattle.course.proofs.chains.oldest_of.Tie as tie
+use Rattle.course.proofs.chains.oldest_of.Reads as reads
+use Rattle.course.proofs.chains.oldest_of.Lts as lts
+use Rattle.course.proofs.chains.seat.Reads as seat-reads
 
 abbrev Inv-loop : tie.InvT-loop
 Inv-loop first homes ranks tasks partition oldest₀ k₀ oldest k = (k ≤ tasks) × (oldest ≡ seatsOf first homes ranks partition k)

@@ -7,10 +7,10 @@ use lib.ListN.{getD}
 use Rattle.laws.specs.Joined.{filled}
 use Rattle.laws.proofs.Joined.{filled-none, filled-more}
 use Rattle.model.specs.Limits.{mostTasks, zeroMember}
-use Rattle.course.proofs.homes_of.Statement.{statement}
-use Rattle.course.proofs.homes_of.Tie as tie
-use Rattle.course.proofs.homes_of.Reads as reads
-use Rattle.course.proofs.homes_of.Lts as lts
+use Rattle.course.proofs.chains.homes_of.Statement.{statement}
+use Rattle.course.proofs.chains.homes_of.Tie as tie
+use Rattle.course.proofs.chains.homes_of.Reads as reads
+use Rattle.course.proofs.chains.homes_of.Lts as lts
 
 abbrev Inv-loop : tie.InvT-loop
 Inv-loop tasks members homes₀ k₀ homes k = (k ≤ tasks) × (homes ≡ filled (λ k. getD members k zeroMember .partition) 0 mostTasks k)

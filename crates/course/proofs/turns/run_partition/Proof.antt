@@ -7,13 +7,13 @@ use denote.Ref.{now}
 use Rattle.course.specs.Course.{Begins, Courses, Turns, Turned}
 use Rattle.course.proofs.Turning.{job-runs, ends-soon}
 use Rattle.course.proofs.Done.{NotedSo, noted-none, noted-more, noted-all, turns-now}
-use Rattle.course.proofs.run_partition.Statement.{statement}
-use Rattle.course.proofs.run_partition.Tie as tie
-use Rattle.course.proofs.run_partition.Reads as reads
-use Rattle.course.proofs.run_partition.Lts as lts
-use Rattle.course.proofs.goes_on.Reads as goes-on-reads
-use Rattle.course.proofs.note.Reads as note-reads
-use Rattle.course.proofs.turn.Reads as turn-reads
+use Rattle.course.proofs.turns.run_partition.Statement.{statement}
+use Rattle.course.proofs.turns.run_partition.Tie as tie
+use Rattle.course.proofs.turns.run_partition.Reads as reads
+use Rattle.course.proofs.turns.run_partition.Lts as lts
+use Rattle.course.proofs.turns.goes_on.Reads as goes-on-reads
+use Rattle.course.proofs.turns.note.Reads as note-reads
+use Rattle.course.proofs.turns.turn.Reads as turn-reads
 
 abbrev Inv-loop : tie.InvT-loop
 Inv-loop keys durations ranks next after out₀ m₀ out m = ((so : Begins m₀ keys durations ranks next after (length out₀)) → Courses (so .turns .order) (so .turns .build) (so .turns .script) (so .turns .partition) m × NotedSo (so .turns .order) (so .turns .build) (so .turns .script) (so .turns .partition) m out₀ out)

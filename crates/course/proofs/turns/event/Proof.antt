@@ -7,10 +7,10 @@ use borrow.Author.Tests.{ltb-true}
 use Rattle.stepper.specs.declared.Machine.{Machine}
 use borrow.Author.Tests.{lt-ltb, le-ltb}
 use native.Mathlib.Omega.{arith}
-use Rattle.course.proofs.event.Statement.{statement}
-use Rattle.course.proofs.event.Tie as tie
-use Rattle.course.proofs.event.Reads as reads
-use Rattle.course.proofs.event.Lts as lts
+use Rattle.course.proofs.turns.event.Statement.{statement}
+use Rattle.course.proofs.turns.event.Tie as tie
+use Rattle.course.proofs.turns.event.Reads as reads
+use Rattle.course.proofs.turns.event.Lts as lts
 
 ahead-few : (m : Machine) → 1024 ≤ m .job → goesOn m ≡ true → m .ahead < 1024
 unfolding goesOn

@@ -1,12 +1,12 @@
 use borrow.Author.Needs.{needs}
 use native.Mathlib.Omega.{arith}
 use Rattle.course.proofs.Turning.{ends-soon, event-soon, gathers-before, gathers-due, ready-so, turned-so}
-use Rattle.course.proofs.turn.Statement.{statement}
-use Rattle.course.proofs.turn.Tie as tie
-use Rattle.course.proofs.turn.Reads as reads
-use Rattle.course.proofs.turn.Lts as lts
-use Rattle.course.proofs.event.Reads as event-reads
-use Rattle.course.proofs.gather.Reads as gather-reads
+use Rattle.course.proofs.turns.turn.Statement.{statement}
+use Rattle.course.proofs.turns.turn.Tie as tie
+use Rattle.course.proofs.turns.turn.Reads as reads
+use Rattle.course.proofs.turns.turn.Lts as lts
+use Rattle.course.proofs.turns.event.Reads as event-reads
+use Rattle.course.proofs.turns.gather.Reads as gather-reads
 use Rattle.stepper.proofs.Machine.tick.Reads as tick-reads
 
 -- src/lib.rt:179:9

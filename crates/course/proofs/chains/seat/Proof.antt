@@ -1,8 +1,8 @@
 use borrow.Author.Needs.{needs}
-use Rattle.course.proofs.seat.Statement.{statement}
-use Rattle.course.proofs.seat.Tie as tie
-use Rattle.course.proofs.seat.Reads as reads
-use Rattle.course.proofs.seat.Lts as lts
+use Rattle.course.proofs.chains.seat.Statement.{statement}
+use Rattle.course.proofs.chains.seat.Tie as tie
+use Rattle.course.proofs.chains.seat.Reads as reads
+use Rattle.course.proofs.chains.seat.Lts as lts
 
 -- src/lib.rt:93:9
 mul-oldest : tie.Need-mul-oldest
