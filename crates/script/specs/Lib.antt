@@ -2,3 +2,4 @@ pub mod Script
 pub mod Held
 pub mod Judged
 pub mod Claims
+pub mod Held
