@@ -2,4 +2,3 @@ pub mod Script
 pub mod Held
 pub mod Judged
 pub mod Claims
-pub mod Held

@@ -28,7 +28,7 @@ fn longest(rows: &[u32; ROWS], from: usize, count: usize) -> u32
 }
 
 // How long a member is blocked by those after it.
-fn blocking(rows: &[u32; ROWS], count: usize, rank: usize) -> u32
+pub fn blocking(rows: &[u32; ROWS], count: usize, rank: usize) -> u32
     requires { ⌜ (rank < count) × (count ≤ mostTasks) ⌝ }
     ensures { λ r. ⌜ r ≡ blockingIn (now (rows .entry)) count rank ⌝ }
 {
