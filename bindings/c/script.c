@@ -21,9 +21,9 @@ static const uint8_t BUILD[19] = {
 static const uint64_t RELEASES[RECORDS][3] = {{0, 1, 4}, {1, 0, 4}, {1, 2, 3}};
 
 // Tick 20 bits, task 5, length 20, spare 3; 0 where a number is more than its field holds, since it would be cut.
-static int put_record(uint8_t *out, uint64_t tick, uint64_t task, uint64_t length) {
-    if (tick >> 20 != 0 || task >> 5 != 0 || length >> 20 != 0) return 0;
-    uint64_t bits = tick << 28 | task << 23 | length << 3;
+static int put_record(uint8_t *out, uint64_t tick, uint64_t task, uint64_t duration) {
+    if (tick >> 20 != 0 || task >> 5 != 0 || duration >> 20 != 0) return 0;
+    uint64_t bits = tick << 28 | task << 23 | duration << 3;
     for (size_t i = 0; i < RECORD_BYTES; i++) {
         out[i] = (uint8_t)(bits >> (8 * (RECORD_BYTES - 1 - i)) & 0xFF);
     }

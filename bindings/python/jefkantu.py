@@ -25,7 +25,7 @@ _ORDER_NUMBERS = 130
 _NO_PLACE = 65535
 _RECORD_BYTES = 6
 _COLUMN_BITS = 32
-_RECORD_BITS = {"tick": 20, "task": 5, "length": 20}  # then 3 spare
+_RECORD_BITS = {"tick": 20, "task": 5, "duration": 20}  # then 3 spare
 
 
 class Cause(NamedTuple):
@@ -110,11 +110,11 @@ class Build(NamedTuple):
 
 
 class Release(NamedTuple):
-    """A record of a script: the tick of the release, the task, and how long the job runs."""
+    """A record of a script: the tick of the release, the task, and the job's length, 1 to C."""
 
     tick: int
     task: int
-    length: int
+    duration: int
 
 
 def read_order(order: bytes) -> Order:
@@ -194,8 +194,8 @@ def write_script(releases: Iterable[Release]) -> bytes:
 def _record(where: str, release: Release) -> bytes:
     """tick 20, task 5, length 20, spare 3"""
     fields = zip(Release._fields, _fields(where, release, Release))
-    tick, task, length = (_number(f"{where}, {name}", value, _RECORD_BITS[name]) for name, value in fields)
-    return (tick << 28 | task << 23 | length << 3).to_bytes(_RECORD_BYTES, "big")
+    tick, task, duration = (_number(f"{where}, {name}", value, _RECORD_BITS[name]) for name, value in fields)
+    return (tick << 28 | task << 23 | duration << 3).to_bytes(_RECORD_BYTES, "big")
 
 
 def _number(where: str, value: Any, bits: int) -> int:

@@ -186,7 +186,7 @@ class Numbers(unittest.TestCase):
             self.refused(TypeError, field, lambda: jefkantu.write_columns(4, *columns))
 
     def test_every_field_of_a_record(self):
-        over = {"tick": 1 << 20, "task": 32, "length": 1 << 20}
+        over = {"tick": 1 << 20, "task": 32, "duration": 1 << 20}
         self.assertEqual(set(over), set(Release._fields))
         for field in Release._fields:
             for value, error in [*UNFIT, (over[field], OverflowError)]:

@@ -26,8 +26,8 @@ static uint32_t below(uint32_t limit) {
     return (uint32_t)(seed >> 33) % limit;
 }
 
-static void put_record(size_t i, uint32_t tick, uint32_t task, uint32_t length) {
-    uint64_t bits = (uint64_t)tick << 28 | (uint64_t)task << 23 | (uint64_t)length << 3;
+static void put_record(size_t i, uint32_t tick, uint32_t task, uint32_t duration) {
+    uint64_t bits = (uint64_t)tick << 28 | (uint64_t)task << 23 | (uint64_t)duration << 3;
     for (size_t k = 0; k < RECORD_BYTES; k++) {
         script[RECORD_BYTES * i + k] = (uint8_t)(bits >> (8 * (RECORD_BYTES - 1 - k)));
     }

@@ -76,7 +76,7 @@ pub fn plan(order: &[u8]) -> Result<Vec<u8>, Refusal> {
     filled(Build::MOST_BYTES, |out| plan_into(order, out))
 }
 
-/// Plans an order into the front of the caller's buffer, and answers the build's length: 1 to 10, 11, then 12.
+/// Plans an order into the front of the caller's buffer, and answers the build's duration: 1 to 10, 11, then 12.
 pub fn plan_into(order: &[u8], out: &mut [u8]) -> Result<usize, Refusal> {
     answer(surface::plan(order, out))
 }

@@ -9,8 +9,8 @@ pub struct Release {
     pub tick: u32,
     /// The task released.
     pub task: u32,
-    /// How long this job runs, 1 to C.
-    pub length: u32,
+    /// The job's length, 1 to C.
+    pub duration: u32,
 }
 
 impl Release {
@@ -25,18 +25,22 @@ impl Release {
     const MOST_TASK: u32 = (1 << 5) - 1;
 
     /// A record of numbers of any width, or the one that is more than its field holds.
-    pub fn of(tick: impl Whole, task: impl Whole, length: impl Whole) -> Result<Release, NotHeld> {
+    pub fn of(
+        tick: impl Whole,
+        task: impl Whole,
+        duration: impl Whole,
+    ) -> Result<Release, NotHeld> {
         Ok(Release {
             tick: held_up_to(Release::MOST_TICK, "record", "tick", tick)?,
             task: held_up_to(Release::MOST_TASK, "record", "task", task)?,
-            length: held_up_to(Release::MOST_TICK, "record", "length", length)?,
+            duration: held_up_to(Release::MOST_TICK, "record", "duration", duration)?,
         })
     }
 
     /// "tick 20, task 5, length 20, spare 3"
     fn bytes(&self) -> Result<[u8; Release::BYTES], NotHeld> {
-        let Release { tick, task, length } = Release::of(self.tick, self.task, self.length)?;
-        let record = u64::from(tick) << 28 | u64::from(task) << 23 | u64::from(length) << 3;
+        let Release { tick, task, duration } = Release::of(self.tick, self.task, self.duration)?;
+        let record = u64::from(tick) << 28 | u64::from(task) << 23 | u64::from(duration) << 3;
         let [_, _, bytes @ ..] = record.to_be_bytes();
         Ok(bytes)
     }

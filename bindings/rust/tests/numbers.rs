@@ -6,7 +6,7 @@ use jefkantu::{column, write_order, write_script, NotHeld, Order, Release, Task,
 const LARGE: u64 = (1 << 32) + 75;
 
 const TASK_FIELDS: [&str; 4] = ["width", "period", "deadline", "run"];
-const RECORD_FIELDS: [&str; 3] = ["tick", "task", "length"];
+const RECORD_FIELDS: [&str; 3] = ["tick", "task", "duration"];
 
 #[track_caller]
 fn told<T: std::fmt::Debug>(
@@ -76,15 +76,15 @@ fn numbers_that_fit_are_judged_by_the_library() {
 
 #[test]
 fn numbers_over_their_field_make_no_script() {
-    let most = Release { tick: 0xF_FFFF, task: 31, length: 0xF_FFFF };
+    let most = Release { tick: 0xF_FFFF, task: 31, duration: 0xF_FFFF };
     assert_eq!(write_script(&[most]).unwrap(), [0xFF, 0xFF, 0xFF, 0xFF, 0xFF, 0xF8]);
     for (over, field, number) in [
         (Release { tick: 0x10_0000, ..most }, "tick", "1048576"),
         (Release { task: 32, ..most }, "task", "32"),
-        (Release { length: 0x10_0000, ..most }, "length", "1048576"),
+        (Release { duration: 0x10_0000, ..most }, "duration", "1048576"),
     ] {
         told(write_script(&[most, over]), Some(1), field, number);
-        told(Release::of(over.tick, over.task, over.length), None, field, number);
+        told(Release::of(over.tick, over.task, over.duration), None, field, number);
     }
 }
 
@@ -92,7 +92,7 @@ fn numbers_over_their_field_make_no_script() {
 fn the_words_name_row_field_and_number() {
     let told = Order::of(4, [[1, 10, 10, 4], [1, 10, -1, 4]]).unwrap_err().to_string();
     assert_eq!(told, "task 1, deadline: -1 is not from 0 to 4294967295");
-    let over = Release { tick: 0, task: 32, length: 1 };
+    let over = Release { tick: 0, task: 32, duration: 1 };
     let told = write_script(&[over]).unwrap_err().to_string();
     assert_eq!(told, "record 0, task: 32 is not from 0 to 31");
     assert_eq!(

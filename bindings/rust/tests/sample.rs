@@ -22,7 +22,7 @@ fn sample() -> Order {
 }
 
 fn script(records: &[(u32, u32, u32)]) -> Vec<u8> {
-    let release = |&(tick, task, length)| Release { tick, task, length };
+    let release = |&(tick, task, duration)| Release { tick, task, duration };
     let releases: Vec<_> = records.iter().map(release).collect();
     write_script(&releases).expect("each number fits its field")
 }
