@@ -257,6 +257,16 @@ class Repository(unittest.TestCase):
         for name in ["MOST_ORDER_BYTES", "MOST_BUILD_BYTES", "MOST_RECORDS"]:
             self.assertEqual(getattr(jefkantu, name), int(header[name]))
 
+    def test_the_formats_page_has_every_cause_and_the_sample(self):
+        page = text("docs/FORMATS.md")
+        rows = re.findall(r"^\| (\d+) \| (.*?) \| (.*?) \| .* \|$", page, re.MULTILINE)
+        causes = [(str(it.number), it.words, it.place or "none") for it in jefkantu.CAUSES.values()]
+        self.assertEqual(rows, causes)
+        lines = re.findall(r"^([0-9A-F]{2})  ([01|]+)  ", page, re.MULTILINE)
+        for byte, bits in lines:
+            self.assertEqual(int(byte, 16), int(bits.replace("|", ""), 2))
+        self.assertEqual(bytes.fromhex("".join(byte for byte, _ in lines)), ORDER + BUILD + SCRIPT)
+
     def test_a_copied_folder_works(self):
         here = Path(__file__).resolve().parent
         with tempfile.TemporaryDirectory() as directory:
