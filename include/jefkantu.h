@@ -14,7 +14,7 @@
 //
 // MEMORY. What is lent is what the proofs rest on:
 // - A length counts items from its pointer on, all of them readable, or writable where the call writes.
-// - With length 0 a pointer may be NULL, and nothing is read or written through it.
+// - With length 0 a pointer may be NULL: nothing is read or written through it (tests/c/numbers.c tries each).
 // - A pointer to uint32_t is aligned as a uint32_t is; bytes have no alignment.
 // - What a call writes to must overlap nothing else that it is lent, and nothing may change what it is lent while it
 //   runs. What a call only reads may overlap. Each function says what that means for it. Where it is broken, the
@@ -69,10 +69,10 @@ static inline uint32_t jefkantu_from_real(double value) {
     return whole < value ? JEFKANTU_NO_NUMBER : whole;
 }
 
-// A 32-bit number of text that is digits and nothing else; "7,5", "7.5", "-1", " 7" and "" are none.
+// A 32-bit number of text that is digits and nothing else; "7,5", "7.5", "-1", " 7", "" and NULL are none.
 static inline uint32_t jefkantu_from_text(const char *text) {
     uint64_t value = 0;
-    if (*text == 0) return JEFKANTU_NO_NUMBER;
+    if (text == NULL || *text == 0) return JEFKANTU_NO_NUMBER;
     for (; *text != 0; text++) {
         if (*text < '0' || *text > '9') return JEFKANTU_NO_NUMBER;
         value = jefkantu_from_unsigned(10 * value + (uint64_t)(*text - '0'));

@@ -53,6 +53,7 @@ static void numbers_that_do_not_fit(void) {
     refused_everywhere("7.5, text", jefkantu_from_text("7.5"));
     refused_everywhere("7,5", jefkantu_from_text("7,5"));
     refused_everywhere("no text", jefkantu_from_text(""));
+    refused_everywhere("no text at all", jefkantu_from_text(NULL));
     refused_everywhere("a blank", jefkantu_from_text(" 7"));
     refused_everywhere("a text's end", jefkantu_from_text("7\n"));
     refused_everywhere("2^64 + 7, text", jefkantu_from_text("18446744073709551623"));

@@ -16,6 +16,7 @@ enum { REFUSED = 1, RIGHT = 2, WRONG = 3 };
 
 static uint8_t order[JEFKANTU_MOST_ORDER_BYTES], build[JEFKANTU_MOST_BUILD_BYTES], script[SCRIPT_BYTES];
 static size_t order_len, build_len, records;
+static double longest;
 static uint32_t finish[JEFKANTU_MOST_RECORDS];
 static uint32_t memory[ROOM / TICK_BYTES];
 
@@ -24,6 +25,12 @@ static uint64_t seed = 1;
 static uint32_t below(uint32_t limit) {
     seed = seed * UINT64_C(6364136223846793005) + UINT64_C(1442695040888963407);
     return (uint32_t)(seed >> 33) % limit;
+}
+
+static double now(void) {
+    struct timespec time;
+    clock_gettime(CLOCK_MONOTONIC, &time);
+    return (double)time.tv_sec + (double)time.tv_nsec / 1e9;
 }
 
 static void put_record(size_t i, uint32_t tick, uint32_t task, uint32_t duration) {
@@ -51,7 +58,10 @@ static void prepare(void) {
         uint32_t task = (uint32_t)(i % TASKS);
         put_record(i, (uint32_t)(i / TASKS) * (period + 100) + task * 31, task, 1 + below(run));
     }
+    double from = now();
     word = jefkantu_run(order, order_len, build, build_len, script, RECORD_BYTES * records, finish, records);
+    double took = now() - from;
+    longest = longest < took ? took : longest;
     if (jefkantu_number(word) != 0) {
         printf("the script of a try is refused %u\n", jefkantu_number(word));
         exit(1);
@@ -66,12 +76,6 @@ static int overlapping(size_t at) {
     uint64_t word = jefkantu_run(order, order_len, build, build_len, bytes + TICKS_BYTES, script_len, memory + at / TICK_BYTES, records);
     if (jefkantu_number(word) != 0) return REFUSED;
     return memcmp(bytes + at, finish, TICK_BYTES * records) == 0 ? RIGHT : WRONG;
-}
-
-static double now(void) {
-    struct timespec time;
-    clock_gettime(CLOCK_MONOTONIC, &time);
-    return (double)time.tv_sec + (double)time.tv_nsec / 1e9;
 }
 
 int main(int argc, char **argv) {
@@ -97,5 +101,6 @@ int main(int argc, char **argv) {
     }
     printf("%d tries: %d took over a second, %d were ended after %u seconds; of the others %d answered 0 with the right ticks, "
            "%d answered 0 with wrong ticks, %d refused\n", tries, slow, ended, seconds, kinds[RIGHT], kinds[WRONG], kinds[REFUSED]);
+    printf("without overlap the longest call took %.2f ms\n", 1000 * longest);
     return 0;
 }
