@@ -38,7 +38,7 @@ impl NotHeld {
     }
 }
 
-/// A whole number of any width, signed or not. A real number and text are none, so they do not compile:
+/// A whole number of any width, signed or not. Real numbers, text and characters are none, so they do not compile:
 ///
 /// ```compile_fail,E0277
 /// jefkantu::Task::of(1, 7.5, 7, 4);
@@ -48,12 +48,27 @@ impl NotHeld {
 /// jefkantu::Task::of(1, "7,5", 7, 4);
 /// ```
 ///
+/// ```compile_fail,E0277
+/// jefkantu::Task::of(1, '7', 7, 4);
+/// ```
+///
 /// ```
 /// jefkantu::Task::of(1u8, 750i64, 750usize, -4i128).unwrap_err();
 /// ```
-pub trait Whole: Copy + fmt::Display + TryInto<u32> {}
+pub trait Whole: Copy + fmt::Display + TryInto<u32> + sealed::Integer {}
 
-impl<N: Copy + fmt::Display + TryInto<u32>> Whole for N {}
+impl<N: Copy + fmt::Display + TryInto<u32> + sealed::Integer> Whole for N {}
+
+/// The integers, and nothing else that turns into a `u32`, as characters do.
+mod sealed {
+    pub trait Integer {}
+
+    macro_rules! integers {
+        ($($integer:ty)*) => { $(impl Integer for $integer {})* };
+    }
+
+    integers!(u8 u16 u32 u64 u128 usize i8 i16 i32 i64 i128 isize);
+}
 
 /// A number of an order or a task, which 32 bits must hold.
 pub(crate) fn held(
