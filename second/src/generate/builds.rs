@@ -27,7 +27,7 @@ pub fn all_in_one(order: &Order) -> Build {
     }
     let mut seats = vec![Seat::default(); order.tasks.len()];
     for (rank, &i) in all.numbers.iter().enumerate() {
-        let response = all.response(rank, &mut ()).unwrap_or(0);
+        let response = all.response(rank).unwrap_or(0);
         seats[i] = Seat { partition: 0, rank: rank as u32, response };
     }
     let partitions = vec![Partition { volume: order.processors, first: 0 }];
@@ -52,7 +52,7 @@ fn sensible(random: &mut Random, order: &Order) -> Vec<Roster> {
         random.shuffle(&mut rosters);
         let mut takers = rosters.iter_mut().filter_map(|roster| {
             let joined = roster.with(i, order.tasks[i]);
-            joined.all_pass(i, &mut ()).then_some((roster, joined))
+            joined.all_pass().then_some((roster, joined))
         });
         if let Some((roster, joined)) = takers.next() {
             *roster = joined;
@@ -131,7 +131,7 @@ fn seats(random: &mut Random, order: &Order, rosters: &[Roster]) -> Vec<Seat> {
     let mut seats = vec![Seat::default(); order.tasks.len()];
     for (partition, roster) in rosters.iter().enumerate() {
         for (rank, &i) in roster.numbers.iter().enumerate() {
-            let response = roster.response(rank, &mut ()).ok();
+            let response = roster.response(rank).ok();
             seats[i] = Seat {
                 partition: partition as u32,
                 rank: rank as u32,
