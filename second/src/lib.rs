@@ -17,6 +17,7 @@ pub mod order;
 pub mod program;
 pub mod response;
 pub mod script;
+pub mod speed;
 pub mod tally;
 pub mod vectors;
 
