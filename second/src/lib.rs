@@ -8,6 +8,7 @@ pub mod bits;
 pub mod build;
 pub mod case;
 pub mod check;
+pub mod counted;
 pub mod fit;
 pub mod generate;
 pub mod library;
