@@ -4,6 +4,7 @@
 //! A refusal leaves the output as it was; a success changes only the counted front.
 
 pub mod answer;
+pub mod bench;
 pub mod bits;
 pub mod build;
 pub mod case;

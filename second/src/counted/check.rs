@@ -12,26 +12,56 @@ pub fn check(order: &Order, build: &Build) -> (Result<(), Refusal>, u64) {
     (responses(order, build, &mut terms), terms)
 }
 
+/// The terms of a check that finds every recorded response right, up to the first member that does not pass.
+pub fn most_terms(order: &Order, build: &Build) -> u64 {
+    let mut terms = 0;
+    let tests = Tests::new(order, build, &mut terms);
+    let failing = (0..build.seats.len()).find(|&i| tests.known.worsts[i] == 0);
+    failing.map(|i| tests.why_not(build, i, &mut terms));
+    terms
+}
+
+/// Every member's test, partition by partition in rank order.
+struct Tests {
+    lines: Vec<Line>,
+    known: Known,
+}
+
+impl Tests {
+    fn new(order: &Order, build: &Build, terms: &mut u64) -> Tests {
+        let mut lines = vec![Line::default(); build.partitions.len()];
+        for (i, seat) in build.seats.iter().enumerate() {
+            lines[seat.partition as usize].put_in(order, i);
+        }
+        let mut known = Known::default();
+        for line in &lines {
+            for rank in 0..line.rows.len() {
+                line.passes(rank, &mut known, terms);
+            }
+        }
+        Tests { lines, known }
+    }
+
+    /// Whether a task that does not pass has no window, or is late.
+    fn why_not(&self, build: &Build, i: usize, terms: &mut u64) -> Cause {
+        let line = &self.lines[build.seats[i].partition as usize];
+        let rank = line.numbers.iter().position(|&number| number == i).unwrap_or(0);
+        let from = self.known.lasts[i];
+        match has_window(&line.rows, rank, line.blocking(rank), from, terms) {
+            true => Cause::Late,
+            false => Cause::Window,
+        }
+    }
+}
+
 fn responses(order: &Order, build: &Build, terms: &mut u64) -> Result<(), Refusal> {
-    let mut lines = vec![Line::default(); build.partitions.len()];
+    let tests = Tests::new(order, build, terms);
     for (i, seat) in build.seats.iter().enumerate() {
-        lines[seat.partition as usize].put_in(order, i);
-    }
-    let mut known = Known::default();
-    for line in &lines {
-        for rank in 0..line.rows.len() {
-            line.passes(rank, &mut known, terms);
+        let worst = tests.known.worsts[i];
+        if worst == 0 {
+            return Err(tests.why_not(build, i, terms).at(i));
         }
-    }
-    for (i, seat) in build.seats.iter().enumerate() {
-        let (line, rank) = (&lines[seat.partition as usize], seat.rank as usize);
-        if known.worsts[i] == 0 {
-            let from = known.lasts[i];
-            let closes = has_window(&line.rows, rank, line.blocking(rank), from, terms);
-            let cause = if closes { Cause::Late } else { Cause::Window };
-            return Err(cause.at(i));
-        }
-        Cause::Response.unless_at(i, known.worsts[i] == seat.response)?;
+        Cause::Response.unless_at(i, worst == seat.response)?;
     }
     Ok(())
 }

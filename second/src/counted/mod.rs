@@ -10,7 +10,7 @@ mod plan;
 mod trial;
 mod verdict;
 
-pub use check::check;
+pub use check::{check, most_terms};
 pub use plan::plan;
 
 /// The most terms of a plan and of a check.

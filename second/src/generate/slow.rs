@@ -26,27 +26,42 @@ pub fn known() -> Vec<Order> {
     lines.map(order).collect()
 }
 
+/// An order as a line of slow.txt.
+pub fn line(terms: u64, order: &Order) -> String {
+    let tasks = order.tasks.iter().map(|k| format!(" {},{},{},{}", k.m, k.t, k.d, k.c));
+    format!("{terms} {}{}", order.processors, tasks.collect::<String>())
+}
+
 /// A first order of one of several kinds; most have utilisation just under 1.
 pub fn seed(random: &mut Random) -> Order {
     let n = match random.below(3) {
         0 => random.between(2, 32),
         _ => 32,
     };
-    let mut tasks = match random.below(5) {
+    let mut tasks = match random.below(8) {
         0 => chain(random),
         1 => outranked(random),
         2 => equal(random),
         3 => lone(random),
+        4 | 5 => pairs(random),
+        6 => cores(random),
         _ => any(random),
     };
-    let low = random.one_in(2);
+    let late = random.below(3);
     while (tasks.len() as u32) < n {
-        let t = Task::PERIOD - random.spread(0, 1_000);
-        let d = if low { random.spread(1, t) } else { t };
+        let (t, left) = (Task::PERIOD - random.spread(0, 1_000), n - tasks.len() as u32);
+        let d = match late {
+            0 => t,
+            1 => random.spread(1, t),
+            // The lower its number, the sooner it is due: each newcomer outranks those before it.
+            _ => t - left * random.between(1, 20_000),
+        };
         tasks.push(task(t, d, random.spread(1, 4)));
     }
-    random.shuffle(&mut tasks);
-    Order { processors: random.pick(&[1, 1, 2, 3]), tasks }
+    if random.one_in(2) {
+        random.shuffle(&mut tasks);
+    }
+    Order { processors: random.pick(&[1, 1, 2, 3, 8]), tasks }
 }
 
 /// 1/2 + 1/3 + 1/7 + 1/43, at some scale, and a fifth that about fills the rest.
@@ -86,6 +101,33 @@ fn lone(random: &mut Random) -> Vec<Task> {
     vec![task(t, random.between(1, t), t - random.below(2).min(t - 1))]
 }
 
+/// A core of short periods, in pairs of periods one apart, that leaves little of a processor.
+fn pairs(random: &mut Random) -> Vec<Task> {
+    let base = random.between(10, 3_000);
+    let kinds = random.between(1, 5);
+    let mut left = 1.0 - f64::from(random.between(1, 300)) / 1e6;
+    let mut tasks = Vec::new();
+    for kind in 0..2 * kinds {
+        let t = base * random.between(1, 3) + kind % 2;
+        let part =
+            if kind + 1 == 2 * kinds { left } else { left / f64::from(random.between(2, 6)) };
+        let c = ((f64::from(t) * part) as u32).max(1);
+        left -= f64::from(c) / f64::from(t);
+        tasks.push(task(t, t, c));
+        if left <= 0.0 {
+            break;
+        }
+    }
+    tasks
+}
+
+/// Several cores, each enough for a partition.
+fn cores(random: &mut Random) -> Vec<Task> {
+    let core = if random.one_in(2) { chain(random) } else { pairs(random) };
+    let times = random.between(2, 6) as usize;
+    core.iter().cycle().take((core.len() * times).min(30)).copied().collect()
+}
+
 /// Any few.
 fn any(random: &mut Random) -> Vec<Task> {
     let k = random.between(2, 12);
@@ -123,7 +165,7 @@ pub fn changed(random: &mut Random, order: &Order) -> Order {
         match random.below(20) {
             0 if n < 32 => order.tasks.push(order.tasks[j]),
             1 if n > 2 => drop(order.tasks.remove(j)),
-            2 => order.processors = random.between(1, 3),
+            2 => order.processors = random.spread(1, 32),
             3 => order.tasks.swap(i, j),
             _ => {}
         }

@@ -1,0 +1,72 @@
+//! Looks for orders that are slow for the library to plan or to check, by hill climbing over their numbers.
+//!
+//! `climb [plan|check] [SEED] [SECONDS]` climbs from the orders of slow.txt, then from random ones of the families of
+//! `generate::slow`, by the terms of `counted`; prints the worst order of each climb in that file's form, and fails if
+//! one is over the limit.
+
+use second::counted::{self, MOST_OF_CHECK, MOST_OF_PLAN};
+use second::generate::random::Random;
+use second::generate::{builds, slow};
+use second::order::Order;
+use std::process::exit;
+use std::time::{Duration, Instant};
+
+/// A climb ends after so many changes in a row that did not help.
+const PATIENCE: u32 = 500;
+
+/// Counts the terms of an order.
+type Terms = fn(&Order) -> u64;
+
+fn plan_terms(order: &Order) -> u64 {
+    counted::plan(order).1
+}
+
+/// The terms of checking the build that has all tasks in one partition.
+fn check_terms(order: &Order) -> u64 {
+    counted::most_terms(order, &builds::ranked_in_one(order))
+}
+
+/// The worst of some random orders.
+fn seed(random: &mut Random, terms: Terms) -> Order {
+    let seeds = (0..40).map(|_| slow::seed(random));
+    seeds.max_by_key(terms).expect("40 seeds")
+}
+
+/// The worst order reached from one before the end.
+fn climb(random: &mut Random, from: Order, terms: Terms, end: Instant) -> (u64, Order) {
+    let mut top = (terms(&from), from);
+    let mut idle = 0;
+    while idle < PATIENCE && Instant::now() < end {
+        let order = slow::changed(random, &top.1);
+        let found = terms(&order);
+        idle = if found > top.0 { 0 } else { idle + 1 };
+        if found >= top.0 {
+            top = (found, order);
+        }
+    }
+    top
+}
+
+fn main() {
+    let mut arguments = std::env::args().skip(1);
+    let (terms, most): (Terms, u64) = match arguments.next().as_deref() {
+        Some("check") => (check_terms, MOST_OF_CHECK),
+        _ => (plan_terms, MOST_OF_PLAN),
+    };
+    let mut number = |default| arguments.next().map_or(default, |n| n.parse().expect("a number"));
+    let (first_seed, seconds) = (number(1), number(60));
+    let end = Instant::now() + Duration::from_secs(seconds);
+    let mut random = Random::new(first_seed);
+    let mut known = slow::known().into_iter();
+    let mut within = true;
+    while Instant::now() < end {
+        let from = known.next().unwrap_or_else(|| seed(&mut random, terms));
+        let (found, order) = climb(&mut random, from, terms, end);
+        println!("{}", slow::line(found, &order));
+        within &= found <= most;
+    }
+    if !within {
+        eprintln!("some order takes over {most} terms");
+        exit(1);
+    }
+}
