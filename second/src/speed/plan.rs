@@ -33,12 +33,13 @@ fn first_fit(order: &Order) -> Result<Vec<Partition>, Refusal> {
     let mut used = 0;
     for &key in &by_volume(order)[..order.n] {
         let i = (key & 31) as usize;
-        if !partitions.iter_mut().any(|partition| partition.members.try_add(order, i)) {
+        if !partitions.iter_mut().any(|partition| partition.members.try_insert(order, i)) {
             let volume = order.m[i];
             Cause::NoFit.unless_at(i, used + volume <= order.processors)?;
-            partitions.push(Partition { volume, first: used, members: Members::none() });
+            let mut members = Members::none();
+            members.push(order, i);
+            partitions.push(Partition { volume, first: used, members });
             used += volume;
-            partitions.last_mut().map(|partition| partition.members.add(order, i));
         }
     }
     Ok(partitions)
@@ -65,9 +66,9 @@ fn write(order: &Order, partitions: &[Partition], out: &mut [u8]) {
         let bits = (partition.volume << 9 | partition.first << 3) as u16;
         record.copy_from_slice(&bits.to_be_bytes());
         let members = &partition.members;
-        let longest = members.longest_below();
+        let longest = members.longest_below(|_| false);
         for rank in 0..members.count {
-            let response = members.worst_response(rank, longest[rank], HORIZON).unwrap_or(0);
+            let response = members.worst_response(0, rank, longest[rank], HORIZON).unwrap_or(0);
             let bits = (j as u32) << 26 | (rank as u32) << 21 | response << 1;
             let at = 4 * usize::from(members.task[rank]);
             seats[at..at + 4].copy_from_slice(&bits.to_be_bytes());

@@ -6,12 +6,12 @@ use super::MOST;
 use crate::answer::{Answer, Cause, Refusal};
 use crate::script::Record;
 
-/// A legal script, one array a field.
-struct Script {
-    count: usize,
-    tick: [u32; Record::MOST],
-    length: [u32; Record::MOST],
-    task: [u8; Record::MOST],
+/// A record, and once it waits the next one of its task that waits.
+struct Job {
+    tick: u32,
+    length: u32,
+    task: u8,
+    next: u16,
 }
 
 /// Runs a script through a build; writes one finish tick per record.
@@ -21,119 +21,114 @@ pub fn run(order: &[u8], build: &[u8], script: &[u8], out: &mut [u32]) -> Answer
 
 fn try_run(order: &[u8], build: &[u8], script: &[u8], out: &mut [u32]) -> Result<usize, Refusal> {
     let (order, seats) = checked(order, build)?;
-    let count = script.len() / 6;
-    Cause::ScriptLength.unless(script.len() % 6 == 0 && count <= Record::MOST)?;
-    let finish = out.get_mut(..count).ok_or(Cause::Places.nowhere())?;
-    let mut legal = Script {
-        count,
-        tick: [0; Record::MOST],
-        length: [0; Record::MOST],
-        task: [0; Record::MOST],
-    };
-    legal.read(&order, script)?;
-    Partitions::new(&seats, order.n).run(&legal, &seats, finish);
-    Ok(count)
+    let (records, rest) = script.as_chunks();
+    Cause::ScriptLength.unless(rest.is_empty() && records.len() <= Record::MOST)?;
+    let finish = out.get_mut(..records.len()).ok_or(Cause::Places.nowhere())?;
+    let mut jobs = legal(&order, records)?;
+    let mut machine = Machine::new(&seats);
+    machine.run(&mut jobs, &seats, finish);
+    Ok(records.len())
 }
 
-impl Script {
-    /// Record by record 41 to 45.
-    fn read(&mut self, order: &Order, script: &[u8]) -> Result<(), Refusal> {
-        let mut earliest = [0; MOST];
-        let mut least = 0;
-        for (r, record) in script.chunks_exact(6).enumerate() {
-            let [a, b, c, d, e, f] = [0, 1, 2, 3, 4, 5].map(|byte| record[byte]);
-            let bits = u64::from_be_bytes([0, 0, a, b, c, d, e, f]);
-            let (tick, task) = ((bits >> 28) as u32, (bits >> 23 & 31) as usize);
-            let length = (bits >> 3) as u32 & 0xF_FFFF;
-            Cause::ScriptSpare.unless_at(r, bits & 7 == 0)?;
-            Cause::NoSuchTask.unless_at(r, task < order.n)?;
-            // Tick and task as one number, which rises.
-            Cause::RecordOrder.unless_at(r, bits >> 23 >= least)?;
-            Cause::JobLength.unless_at(r, length > 0 && length <= order.c[task])?;
-            Cause::Gap.unless_at(r, tick >= earliest[task])?;
-            least = (bits >> 23) + 1;
-            earliest[task] = tick + order.t[task];
-            self.tick[r] = tick;
-            self.length[r] = length;
-            self.task[r] = task as u8;
-        }
-        Ok(())
+/// The jobs of a legal script: record by record 41 to 45.
+fn legal(order: &Order, records: &[[u8; 6]]) -> Result<Vec<Job>, Refusal> {
+    let mut jobs = Vec::with_capacity(records.len());
+    let mut earliest = [0; MOST];
+    let mut least = 0;
+    for (r, &[a, b, c, d, e, f]) in records.iter().enumerate() {
+        let bits = u64::from_be_bytes([0, 0, a, b, c, d, e, f]);
+        let (tick, task) = ((bits >> 28) as u32, (bits >> 23 & 31) as usize);
+        let length = (bits >> 3) as u32 & 0xF_FFFF;
+        Cause::ScriptSpare.unless_at(r, bits & 7 == 0)?;
+        Cause::NoSuchTask.unless_at(r, task < order.n)?;
+        // Tick and task as one number, which rises.
+        Cause::RecordOrder.unless_at(r, bits >> 23 >= least)?;
+        Cause::JobLength.unless_at(r, length > 0 && length <= order.c[task])?;
+        Cause::Gap.unless_at(r, tick >= earliest[task])?;
+        least = (bits >> 23) + 1;
+        earliest[task] = tick + order.t[task];
+        jobs.push(Job { tick, length, task: task as u8, next: 0 });
     }
+    Ok(jobs)
 }
 
-/// What waits in each partition, and when it next chooses; the waiting records of each task as a chain.
-struct Partitions {
+/// What waits in a partition.
+#[derive(Clone, Copy)]
+struct Partition {
     /// The tasks with waiting jobs, as bits by rank.
-    waiting: [u32; MOST],
-    choice: [u32; MOST],
-    by_rank: [[u8; MOST]; MOST],
-    oldest: [u16; MOST],
-    newest: [u16; MOST],
-    jobs: [u16; MOST],
-    next: [u16; Record::MOST],
+    waiting: u32,
+    /// When the next job starts, if one waits; else when the last one ended.
+    start: u32,
+    /// Its first task's place in the line.
+    first: u8,
 }
 
-impl Partitions {
-    fn new(seats: &Seats, n: usize) -> Partitions {
-        let mut by_rank = [[0; MOST]; MOST];
-        for task in 0..n {
-            let (partition, rank) = (seats.partition[task], seats.rank[task]);
-            by_rank[usize::from(partition)][usize::from(rank)] = task as u8;
-        }
-        Partitions {
-            waiting: [0; MOST],
-            choice: [0; MOST],
-            by_rank,
-            oldest: [0; MOST],
-            newest: [0; MOST],
-            jobs: [0; MOST],
-            next: [0; Record::MOST],
-        }
+/// The waiting jobs of a task: the oldest, the newest and how many.
+#[derive(Clone, Copy, Default)]
+struct Queue {
+    oldest: u16,
+    newest: u16,
+    count: u16,
+}
+
+/// The partitions, and the tasks' queues by their places in the line.
+struct Machine {
+    partitions: [Partition; MOST],
+    queues: [Queue; MOST],
+}
+
+impl Machine {
+    fn new(seats: &Seats) -> Machine {
+        let partitions = seats.first.map(|first| Partition { waiting: 0, start: 0, first });
+        Machine { partitions, queues: [Queue::default(); MOST] }
     }
 
     /// Record by record: its partition starts what is due before it, then the record joins.
-    fn run(&mut self, script: &Script, seats: &Seats, finish: &mut [u32]) {
-        for r in 0..script.count {
-            let (tick, task) = (script.tick[r], usize::from(script.task[r]));
-            let partition = usize::from(seats.partition[task]);
-            while self.waiting[partition] != 0 && self.choice[partition] < tick {
-                self.start(partition, script, finish);
+    fn run(&mut self, jobs: &mut [Job], seats: &Seats, finish: &mut [u32]) {
+        for r in 0..jobs.len() {
+            let (tick, task) = (jobs[r].tick, usize::from(jobs[r].task));
+            let partition = &mut self.partitions[usize::from(seats.partition[task])];
+            while partition.waiting != 0 && partition.start < tick {
+                partition.start_job(&mut self.queues, jobs, finish);
             }
-            self.join(partition, seats.rank[task], task, r, tick);
+            let place = seats.place[task];
+            if partition.waiting == 0 {
+                partition.start = partition.start.max(tick);
+            }
+            partition.waiting |= 1 << (place - partition.first);
+            self.queues[usize::from(place)].join(jobs, r);
         }
-        for partition in 0..seats.partitions {
-            while self.waiting[partition] != 0 {
-                self.start(partition, script, finish);
+        for partition in &mut self.partitions {
+            while partition.waiting != 0 {
+                partition.start_job(&mut self.queues, jobs, finish);
             }
         }
     }
+}
 
-    /// A record joins; where none waited, its partition chooses when it is free.
-    fn join(&mut self, partition: usize, rank: u8, task: usize, r: usize, tick: u32) {
-        if self.waiting[partition] == 0 {
-            self.choice[partition] = self.choice[partition].max(tick);
-        }
-        self.waiting[partition] |= 1 << rank;
-        if self.jobs[task] == 0 {
-            self.oldest[task] = r as u16;
-        } else {
-            self.next[usize::from(self.newest[task])] = r as u16;
-        }
-        self.newest[task] = r as u16;
-        self.jobs[task] += 1;
-    }
-
+impl Partition {
     /// The highest-priority waiting job starts, the oldest first within a task, and runs unbroken.
-    fn start(&mut self, partition: usize, script: &Script, finish: &mut [u32]) {
-        let rank = self.waiting[partition].trailing_zeros() as usize;
-        let task = usize::from(self.by_rank[partition][rank]);
-        let r = usize::from(self.oldest[task]);
-        self.choice[partition] += script.length[r];
-        finish[r] = self.choice[partition];
-        self.oldest[task] = self.next[r];
-        self.jobs[task] -= 1;
-        if self.jobs[task] == 0 {
-            self.waiting[partition] &= self.waiting[partition] - 1;
+    fn start_job(&mut self, queues: &mut [Queue; MOST], jobs: &[Job], finish: &mut [u32]) {
+        let rank = self.waiting.trailing_zeros() as usize;
+        let queue = &mut queues[usize::from(self.first) + rank];
+        let r = usize::from(queue.oldest);
+        self.start += jobs[r].length;
+        finish[r] = self.start;
+        queue.oldest = jobs[r].next;
+        queue.count -= 1;
+        if queue.count == 0 {
+            self.waiting &= self.waiting - 1;
         }
+    }
+}
+
+impl Queue {
+    fn join(&mut self, jobs: &mut [Job], r: usize) {
+        match self.count {
+            0 => self.oldest = r as u16,
+            _ => jobs[usize::from(self.newest)].next = r as u16,
+        }
+        self.newest = r as u16;
+        self.count += 1;
     }
 }
