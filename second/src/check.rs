@@ -15,7 +15,7 @@ pub fn check(order: &[u8], build: &[u8]) -> Result<(Order, Build), Refusal> {
 }
 
 /// Reads a build of this order: 20 to 23.
-fn read(bytes: &[u8], order: &Order) -> Result<Build, Refusal> {
+pub fn read(bytes: &[u8], order: &Order) -> Result<Build, Refusal> {
     let header = bytes.get(..Build::HEADER.bytes());
     let header = header.ok_or(Cause::BuildShort.nowhere())?;
     let [version, processors, n, p] = Build::HEADER.read(header);

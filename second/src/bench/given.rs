@@ -1,10 +1,11 @@
 //! What the operations are given.
 
+use super::Operation;
 use crate::generate::random::Random;
 use crate::generate::{builds, papers, scripts, slow, Scale};
 use crate::order::Order;
 use crate::script::{self, Record};
-use crate::speed;
+use crate::{check, counted, speed};
 
 /// An order with its build, none if it is refused; the build with all tasks in one partition; and a legal script.
 pub struct Given {
@@ -29,6 +30,20 @@ impl Given {
 
     pub fn records(&self) -> usize {
         self.script.len() / 6
+    }
+
+    /// The library's terms in an operation, as its copy counts them.
+    pub fn terms(&self, operation: Operation) -> u64 {
+        let checked = |order: &Order, build: &[u8]| {
+            let build = check::read(build, order).expect("a build");
+            counted::check(order, &build).1
+        };
+        let order = Order::read(&self.order).expect("an order");
+        match operation {
+            Operation::Plan => counted::plan(&order).1,
+            Operation::CheckInOne => checked(&order, &self.in_one),
+            Operation::Check | Operation::Run => checked(&order, &self.build),
+        }
     }
 
     fn partitions(&self) -> u8 {
@@ -81,9 +96,9 @@ pub fn growing(n: u32, orders: usize) -> Vec<Given> {
 /// The orders of slow.txt, each with a legal script.
 pub fn slow_ones() -> Vec<Given> {
     let mut random = Random::new(4);
-    let mut given = |order: &Order| {
+    let given = |order: &Order| {
         let script = scripts::legal(&mut random, order, &Scale::FULL);
         Given::new(order, &script)
     };
-    slow::known().iter().map(|order| given(order)).collect()
+    slow::known().iter().map(given).collect()
 }

@@ -17,8 +17,8 @@ impl Tables {
     pub fn head(&self, title: &str, first: &str) {
         let sides: String = SIDES.iter().map(|side| format!(" {}, µs |", side.name)).collect();
         println!("\n## {title}\n");
-        println!("| {first} | Operation | Cases | Records |{sides} Ratio |");
-        println!("|---|---|---|---|{}---|", "---|".repeat(SIDES.len()));
+        println!("| {first} | Operation | Cases | Records | Terms |{sides} Ratio |");
+        println!("|---|---|---|---|---|{}---|", "---|".repeat(SIDES.len()));
     }
 
     /// One row: the means of the sides in microseconds, and the library's ratio to the fastest other side.
@@ -36,11 +36,12 @@ impl Tables {
         };
         let cells: String = (0..SIDES.len()).map(cell).collect();
         let records = match operation {
-            Operation::Run => mean_records(given).to_string(),
+            Operation::Run => mean(given, |given| given.records() as u64).to_string(),
             _ => String::new(),
         };
-        let what = operation.name();
-        println!("| {name} | {what} | {} | {records} |{cells} {ratio:.2} |", given.len());
+        let terms = mean(given, |given| given.terms(operation));
+        let (what, cases) = (operation.name(), given.len());
+        println!("| {name} | {what} | {cases} | {records} | {terms} |{cells} {ratio:.2} |");
         self.note(operation, ratio, name);
     }
 
@@ -64,6 +65,6 @@ impl Tables {
     }
 }
 
-fn mean_records(given: &[&Given]) -> usize {
-    given.iter().map(|given| given.records()).sum::<usize>() / given.len()
+fn mean(given: &[&Given], of: impl Fn(&Given) -> u64) -> u64 {
+    given.iter().map(|given| of(given)).sum::<u64>() / given.len() as u64
 }

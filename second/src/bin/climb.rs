@@ -1,13 +1,15 @@
 //! Looks for orders that are slow for the library to plan or to check, by hill climbing over their numbers.
 //!
-//! `climb [plan|check] [SEED] [SECONDS]` climbs from the orders of slow.txt, then from random ones of the families of
+//! `climb plan|check [SEED] [SECONDS]` climbs from the orders of slow.txt, then from random ones of the families of
 //! `generate::slow`, by the terms of `counted`; prints the worst order of each climb in that file's form, and fails if
 //! one is over the limit.
+//! `climb sift [K]` counts the orders of slow.txt and of the standard input, and prints the K worst by plan and by check.
 
 use second::counted::{self, MOST_OF_CHECK, MOST_OF_PLAN};
 use second::generate::random::Random;
 use second::generate::{builds, slow};
 use second::order::Order;
+use std::cmp::Reverse;
 use std::process::exit;
 use std::time::{Duration, Instant};
 
@@ -47,26 +49,54 @@ fn climb(random: &mut Random, from: Order, terms: Terms, end: Instant) -> (u64, 
     top
 }
 
-fn main() {
-    let mut arguments = std::env::args().skip(1);
-    let (terms, most): (Terms, u64) = match arguments.next().as_deref() {
-        Some("check") => (check_terms, MOST_OF_CHECK),
-        _ => (plan_terms, MOST_OF_PLAN),
-    };
-    let mut number = |default| arguments.next().map_or(default, |n| n.parse().expect("a number"));
-    let (first_seed, seconds) = (number(1), number(60));
+fn line(order: &Order) -> String {
+    slow::line(plan_terms(order), check_terms(order), order)
+}
+
+/// Climbs until the time is over; whether all that was found is within the limit.
+fn climbs(terms: Terms, most: u64, first_seed: u64, seconds: u64) -> bool {
     let end = Instant::now() + Duration::from_secs(seconds);
     let mut random = Random::new(first_seed);
-    let mut known = slow::known().into_iter();
+    let mut known = slow::known();
+    random.shuffle(&mut known);
     let mut within = true;
     while Instant::now() < end {
-        let from = known.next().unwrap_or_else(|| seed(&mut random, terms));
+        let from = known.pop().unwrap_or_else(|| seed(&mut random, terms));
         let (found, order) = climb(&mut random, from, terms, end);
-        println!("{}", slow::line(found, &order));
+        println!("{}", line(&order));
         within &= found <= most;
     }
+    within
+}
+
+/// The worst orders that are known or given, those by plan first.
+fn sift(most: usize) {
+    let given = std::io::read_to_string(std::io::stdin()).expect("lines of orders");
+    let mut left = slow::known();
+    left.extend(slow::read(&given));
+    for terms in [plan_terms, check_terms] {
+        left.sort_by_cached_key(|order| Reverse(terms(order)));
+        let rest = left.split_off(most.min(left.len()));
+        left.iter().for_each(|order| println!("{}", line(order)));
+        left = rest;
+    }
+}
+
+fn main() {
+    let mut arguments = std::env::args().skip(1);
+    let what = arguments.next().unwrap_or_default();
+    let mut number = |default| arguments.next().map_or(default, |n| n.parse().expect("a number"));
+    let within = match what.as_str() {
+        "plan" => climbs(plan_terms, MOST_OF_PLAN, number(1), number(60)),
+        "check" => climbs(check_terms, MOST_OF_CHECK, number(1), number(60)),
+        "sift" => {
+            sift(number(10) as usize);
+            true
+        }
+        _ => panic!("climb plan|check [SEED] [SECONDS], or climb sift [K]"),
+    };
     if !within {
-        eprintln!("some order takes over {most} terms");
+        eprintln!("some order is over the limit");
         exit(1);
     }
 }

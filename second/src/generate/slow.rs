@@ -9,11 +9,16 @@ fn task(t: u32, d: u32, c: u32) -> Task {
     Task { m: 1, t, d: d.clamp(c, t), c }
 }
 
-/// The orders of slow.txt, the slowest that were found: terms, M and the tasks as m,T,D,C.
+/// The orders of slow.txt, the slowest that were found.
 pub fn known() -> Vec<Order> {
-    let lines = include_str!("../../slow.txt").lines().filter(|line| !line.starts_with('#'));
+    read(include_str!("../../slow.txt"))
+}
+
+/// The orders of such lines: the terms of the plan and of the check, M, and the tasks as m,T,D,C.
+pub fn read(lines: &str) -> Vec<Order> {
+    let lines = lines.lines().filter(|line| !line.starts_with('#'));
     let order = |line: &str| {
-        let mut words = line.split(' ').skip(1);
+        let mut words = line.split(' ').skip(2);
         let number = |word: &str| word.parse().expect("a number");
         let processors = words.next().map_or(0, number);
         let task = |word: &str| {
@@ -26,10 +31,10 @@ pub fn known() -> Vec<Order> {
     lines.map(order).collect()
 }
 
-/// An order as a line of slow.txt.
-pub fn line(terms: u64, order: &Order) -> String {
+/// An order as such a line.
+pub fn line(plan: u64, check: u64, order: &Order) -> String {
     let tasks = order.tasks.iter().map(|k| format!(" {},{},{},{}", k.m, k.t, k.d, k.c));
-    format!("{terms} {}{}", order.processors, tasks.collect::<String>())
+    format!("{plan} {check} {}{}", order.processors, tasks.collect::<String>())
 }
 
 /// A first order of one of several kinds; most have utilisation just under 1.
@@ -162,7 +167,9 @@ pub fn changed(random: &mut Random, order: &Order) -> Order {
             12 => task(t.saturating_mul(by + 1) / by, d, c.saturating_mul(by + 1) / by),
             _ => task(t, d.saturating_sub(by), c),
         };
-        match random.below(20) {
+        match random.below(24) {
+            4 => fill_up(random, &mut order.tasks, i),
+            5 => outrank(&mut order.tasks),
             0 if n < 32 => order.tasks.push(order.tasks[j]),
             1 if n > 2 => drop(order.tasks.remove(j)),
             2 => order.processors = random.spread(1, 32),
@@ -171,4 +178,33 @@ pub fn changed(random: &mut Random, order: &Order) -> Order {
         }
     }
     order
+}
+
+/// A period of more is not of the core.
+const CORE: u32 = 10_000;
+
+/// Gives a task of the core such a period that the core leaves only little of a processor.
+fn fill_up(random: &mut Random, tasks: &mut [Task], i: usize) {
+    let used = |k: &Task| f64::from(k.c) / f64::from(k.t);
+    let core = |(j, k): &(usize, &Task)| *j != i && k.t <= CORE;
+    let others: f64 = tasks.iter().enumerate().filter(core).map(|(_, k)| used(k)).sum();
+    let left = 1.0 - f64::from(random.spread(1, 1_000)) / 1e6 - others;
+    if left > 0.0 {
+        let c = random.pick(&[tasks[i].c, tasks[i].c, 1]);
+        let t = (f64::from(c) / left).ceil().min(f64::from(Task::PERIOD)) as u32;
+        tasks[i] = task(t, t, c);
+    }
+}
+
+/// Turns the deadlines of the other tasks round, so that each newcomer outranks those before it.
+fn outrank(tasks: &mut [Task]) {
+    let others = |k: &Task| k.t > CORE;
+    let mut numbers: Vec<usize> = (0..tasks.len()).filter(|&i| others(&tasks[i])).collect();
+    let mut deadlines: Vec<u32> = numbers.iter().map(|&i| tasks[i].d).collect();
+    numbers.sort_by_key(|&i| (tasks[i].t, i));
+    deadlines.sort_by(|a, b| b.cmp(a));
+    for (i, d) in numbers.into_iter().zip(deadlines) {
+        let Task { t, c, .. } = tasks[i];
+        tasks[i] = task(t, d, c);
+    }
 }

@@ -48,8 +48,8 @@ fn first_fit(order: &Order) -> Result<Vec<Partition>, Refusal> {
 /// The tasks by larger m, then smaller T, then lower number, each as one number that ends in its own.
 fn by_volume(order: &Order) -> [u32; MOST] {
     let mut keys = [u32::MAX; MOST];
-    for i in 0..order.n {
-        keys[i] = (64 - order.m[i]) << 25 | order.t[i] << 5 | i as u32;
+    for (i, key) in keys[..order.n].iter_mut().enumerate() {
+        *key = (64 - order.m[i]) << 25 | order.t[i] << 5 | i as u32;
     }
     keys[..order.n].sort_unstable();
     keys
@@ -67,10 +67,10 @@ fn write(order: &Order, partitions: &[Partition], out: &mut [u8]) {
         record.copy_from_slice(&bits.to_be_bytes());
         let members = &partition.members;
         let longest = members.longest_below(|_| false);
-        for rank in 0..members.count {
+        for (rank, &task) in members.task[..members.count].iter().enumerate() {
             let response = members.worst_response(0, rank, longest[rank], HORIZON).unwrap_or(0);
             let bits = (j as u32) << 26 | (rank as u32) << 21 | response << 1;
-            let at = 4 * usize::from(members.task[rank]);
+            let at = 4 * usize::from(task);
             seats[at..at + 4].copy_from_slice(&bits.to_be_bytes());
         }
     }
