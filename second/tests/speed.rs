@@ -27,12 +27,12 @@ fn agree(with: &impl Program, seed: u64, cases: u64, scale: Scale, least: u32) {
 
 #[test]
 fn with_the_second() {
-    agree(&Second, 21, 60_000, Scale::FULL, 40);
+    agree(&Second, 21, 30_000, Scale::FULL, 15);
 }
 
 #[test]
 fn with_the_naive() {
-    agree(&Naive, 22, 12_000, Scale::SMALL, 0);
+    agree(&Naive, 22, 8_000, Scale::SMALL, 0);
 }
 
 /// Few tasks, but all periods: windows and starts up to the horizon.
