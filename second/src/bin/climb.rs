@@ -1,11 +1,12 @@
 //! Looks for orders that are slow for the library to plan or to check, by hill climbing over their numbers.
 //!
-//! `climb plan|check [SEED] [SECONDS]` climbs from the orders of slow.txt, then from random ones of the families of
-//! `generate::slow`, by the terms of `counted`; prints the worst order of each climb in that file's form, and fails if
+//! `climb plan|check [SEED] [SECONDS]` climbs from cores with newcomers, and from the orders of slow.txt, then from
+//! random ones of the families of `generate::slow`, by the terms of `counted`; prints the worst order of each climb in that file's form, and fails if
 //! one is over the limit.
 //! `climb sift [K]` counts the orders of slow.txt and of the standard input, and prints the K worst by plan and by check.
 
 use second::counted::{self, MOST_OF_CHECK, MOST_OF_PLAN};
+use second::generate::cores::Cores;
 use second::generate::random::Random;
 use second::generate::{builds, slow};
 use second::order::Order;
@@ -28,26 +29,39 @@ fn check_terms(order: &Order) -> u64 {
     counted::most_terms(order, &builds::ranked_in_one(order))
 }
 
-/// The worst of some random orders.
-fn seed(random: &mut Random, terms: Terms) -> Order {
-    let seeds = (0..40).map(|_| slow::seed(random));
-    seeds.max_by_key(terms).expect("40 seeds")
+/// What is climbed over, and the order that it makes.
+struct Hill<S> {
+    change: fn(&mut Random, &S) -> S,
+    order: fn(&S) -> Order,
 }
 
-/// The worst order reached from one before the end.
-fn climb(random: &mut Random, from: Order, terms: Terms, end: Instant) -> (u64, Order) {
-    let mut top = (terms(&from), from);
-    let mut idle = 0;
-    while idle < PATIENCE && Instant::now() < end {
-        let order = slow::changed(random, &top.1);
-        let found = terms(&order);
-        idle = if found > top.0 { 0 } else { idle + 1 };
-        if found >= top.0 {
-            top = (found, order);
-        }
+impl<S> Hill<S> {
+    /// The worst of some random ones.
+    fn seed(&self, random: &mut Random, draw: fn(&mut Random) -> S, terms: Terms) -> S {
+        let seeds = (0..40).map(|_| draw(random));
+        seeds.max_by_key(|seed| terms(&(self.order)(seed))).expect("40 seeds")
     }
-    top
+
+    /// The worst order reached from one before the end.
+    fn climb(&self, random: &mut Random, from: S, terms: Terms, end: Instant) -> Order {
+        let mut most = terms(&(self.order)(&from));
+        let mut top = from;
+        let mut idle = 0;
+        while idle < PATIENCE && Instant::now() < end {
+            let next = (self.change)(random, &top);
+            let found = terms(&(self.order)(&next));
+            idle = if found > most { 0 } else { idle + 1 };
+            if found >= most {
+                (most, top) = (found, next);
+            }
+        }
+        (self.order)(&top)
+    }
 }
+
+const ORDERS: Hill<Order> = Hill { change: slow::changed, order: Order::clone };
+const CORES: Hill<Cores> =
+    Hill { change: |random, cores| cores.changed(random), order: Cores::order };
 
 fn line(order: &Order) -> String {
     slow::line(plan_terms(order), check_terms(order), order)
@@ -61,10 +75,14 @@ fn climbs(terms: Terms, most: u64, first_seed: u64, seconds: u64) -> bool {
     random.shuffle(&mut known);
     let mut within = true;
     while Instant::now() < end {
-        let from = known.pop().unwrap_or_else(|| seed(&mut random, terms));
-        let (found, order) = climb(&mut random, from, terms, end);
-        println!("{}", line(&order));
-        within &= found <= most;
+        let cores = CORES.seed(&mut random, Cores::seed, terms);
+        let core = CORES.climb(&mut random, cores, terms, end);
+        let from = known.pop().unwrap_or_else(|| ORDERS.seed(&mut random, slow::seed, terms));
+        for from in [core, from] {
+            let order = ORDERS.climb(&mut random, from, terms, end);
+            println!("{}", line(&order));
+            within &= terms(&order) <= most;
+        }
     }
     within
 }

@@ -1,5 +1,6 @@
 //! Orders that are slow to plan, for the search for slower ones.
 
+use super::cores::fill_up;
 use super::random::Random;
 use crate::order::{Order, Task};
 
@@ -168,7 +169,7 @@ pub fn changed(random: &mut Random, order: &Order) -> Order {
             _ => task(t, d.saturating_sub(by), c),
         };
         match random.below(24) {
-            4 => fill_up(random, &mut order.tasks, i),
+            4 => fill_core(random, &mut order.tasks, i),
             5 => outrank(&mut order.tasks),
             0 if n < 32 => order.tasks.push(order.tasks[j]),
             1 if n > 2 => drop(order.tasks.remove(j)),
@@ -184,16 +185,13 @@ pub fn changed(random: &mut Random, order: &Order) -> Order {
 const CORE: u32 = 10_000;
 
 /// Gives a task of the core such a period that the core leaves only little of a processor.
-fn fill_up(random: &mut Random, tasks: &mut [Task], i: usize) {
-    let used = |k: &Task| f64::from(k.c) / f64::from(k.t);
-    let core = |(j, k): &(usize, &Task)| *j != i && k.t <= CORE;
-    let others: f64 = tasks.iter().enumerate().filter(core).map(|(_, k)| used(k)).sum();
-    let left = 1.0 - f64::from(random.spread(1, 1_000)) / 1e6 - others;
-    if left > 0.0 {
-        let c = random.pick(&[tasks[i].c, tasks[i].c, 1]);
-        let t = (f64::from(c) / left).ceil().min(f64::from(Task::PERIOD)) as u32;
-        tasks[i] = task(t, t, c);
-    }
+fn fill_core(random: &mut Random, tasks: &mut [Task], i: usize) {
+    tasks.swap(0, i);
+    let mut core = vec![tasks[0]];
+    core.extend(tasks[1..].iter().filter(|k| k.t <= CORE));
+    fill_up(random, &mut core, 0);
+    tasks[0] = core[0];
+    tasks.swap(0, i);
 }
 
 /// Turns the deadlines of the other tasks round, so that each newcomer outranks those before it.
