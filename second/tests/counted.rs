@@ -1,9 +1,9 @@
-//! The counted copy of the library's way answers as the second program does, and the slow orders stay within its limits.
+//! The counted copy of the library's way answers as the second program does.
 
 use second::answer::Answer;
-use second::counted::{self, MOST_OF_CHECK, MOST_OF_PLAN};
+use second::counted;
 use second::generate::random::Random;
-use second::generate::{builds, orders, slow, Scale};
+use second::generate::{builds, orders, Scale};
 use second::{check, plan};
 
 #[test]
@@ -37,17 +37,4 @@ fn checks_alike() {
         }
     }
     assert!(looked_at > 5_000);
-}
-
-#[test]
-fn slow_orders_are_within_limits() {
-    for order in slow::known() {
-        let (planned, terms) = counted::plan(&order);
-        assert!(terms <= MOST_OF_PLAN, "plan {terms} {order:?}");
-        let by_hand = builds::all_in_one(&order);
-        for build in planned.into_iter().chain([by_hand]) {
-            let (_, terms) = counted::check(&order, &build);
-            assert!(terms <= MOST_OF_CHECK, "check {terms} {order:?}");
-        }
-    }
 }
