@@ -2,45 +2,58 @@
 use Prim.Native.Nat.{ℕ, _+_, _<_}
 use mathlib.Core.Path.{_≡_, sym, ap, _∙_, subst}
 use mathlib.Core.List.{List, [], _++_, append-nil}
+use mathlib.Core.Logic.{_⊎_, inl, inr}
 use native.Mathlib.Omega.{arith}
-use lib.ListN.{drop}
+use lib.ListN.{length, drop}
 use lib.Seq.{take-at}
+use Rattle.laws.proofs.Filled.{length-filled}
 use Rattle.model.specs.declared.order.Order.{Order}
 use Rattle.model.specs.declared.build.Build.{Build}
 use Rattle.model.specs.declared.answer.Answer.{Answer}
 use Rattle.model.specs.declared.answer.Answer.the-variants.{Done}
+use Rattle.model.specs.Limits.{mostTasks, zeroMember, homeOf}
+use Rattle.model.specs.Processors.{volumeOf, processorOf, AmongLowest}
 use Rattle.model.specs.Answer.{outputAfter}
-use Rattle.model.specs.Rules.{allHold, WithinLimits}
+use Rattle.model.specs.Rules.{WithinLimits}
 use Rattle.model.proofs.Output.{after-done}
+use Rattle.model.proofs.Rules.{AllPass, never}
 use Rattle.order.specs.Order.{orderAt, orderRules}
 use Rattle.order.proofs.Reading.{within-limits, header-holds, spares-hold}
-use Rattle.build.specs.Build.{memberOf, buildAt, buildBytes, buildHeaderOf}
-use Rattle.build.specs.Trip.{Holds}
-use Rattle.build.proofs.Trip.{length-right, reads-back}
-use Rattle.fit.specs.Turns.{partitionOf}
+use Rattle.build.specs.Build.{buildAt, buildBytes, buildHeaderOf, FieldsFit}
+use Rattle.build_facts.specs.Facts.{ZeroPast, Holds}
+use Rattle.build_facts.proofs.Back.{length-right, reads-back}
+use Rattle.turns.specs.Turns.{homeAt}
+use Rattle.fitting.specs.declared.Placing.{Placing}
+use Rattle.fitting.specs.Steps.{goingOn, refusing, firstFit}
+use Rattle.fitting.specs.Claims.{Placed}
+use Rattle.fitting.proofs.Claims.{places, one-of-two}
+use Rattle.fit.specs.declared.records.Fitted.{Fitted}
+use Rattle.fit.specs.Recorded.{recordedAs, buildOf, fittedOf}
 use Rattle.fit.specs.Claims.{Built}
-use Rattle.demand.proofs.Within.{limits-sound}
-use Rattle.fit.specs.Recorded.{fittedOf}
-use Rattle.plan.proofs.Fields.{recordedPartitions, recorded, built, fields-fit, zero-past}
+use Rattle.fit.proofs.Built.{built, fitted-done, fitted-refused}
+use Rattle.fit.proofs.Fields.{built-fits}
 use Rattle.plan.proofs.Claims.{order-rules, fit-done, counted}
-use Rattle.inspect.specs.Rules.{partitionsOf, checkAnswer}
-use Rattle.inspect.specs.Meaning.{PartitionRight}
-use Rattle.inspect.specs.Claims.{OrderRight, LayoutRight, Accepted}
+use Rattle.inspect_places.specs.Rules.{PartitionRight}
+use Rattle.inspect.specs.Rules.{checkAnswer}
+use Rattle.inspect.specs.Claims.{OrderRight, LayoutRight, AcceptedBuild}
 use Rattle.inspect.proofs.Claims.{accepted-done}
 use Rattle.agree.specs.Claims.{PlannedIsAccepted}
 
-module _ (order : List ℕ) (rules : allHold (orderRules order)) {count : ℕ} (done : fittedOf (orderAt order) .answer ≡ Done count) where
+module _ (order : List ℕ) (rules : AllPass (orderRules order)) (s : Placing) (fits : firstFit (orderAt order) ≡ goingOn s) where
   abbrev o : Order
   o = orderAt order
 
   abbrev b : Build
-  b = fittedOf o .build
+  b = buildOf o s
 
   abbrev limits : WithinLimits o
   limits = within-limits order rules
 
-  abbrev its : Built o b (recordedPartitions b)
-  its = built o limits done
+  its : Built o b
+  its = built o limits s fits
+
+  placed : Placed o (its .placed .0 .homes) (b .places) (b .partitions)
+  placed = its .placed .1 .1
 
   -- 1 to 10
   order-right : OrderRight order
@@ -58,33 +71,44 @@ module _ (order : List ℕ) (rules : allHold (orderRules order)) {count : ℕ} (
         ranges = limits .each;
       }
 
-  -- the bytes hold the build
-  holds : Holds (buildBytes b) b
-  holds = subst (λ (x : List ℕ). Holds x b) (append-nil (buildBytes b)) (reads-back b [] (fields-fit o limits done) (zero-past o limits done))
-
-  -- 24 to 30, of the build itself
-  in-partition : (i : ℕ) → i < o .tasks → partitionOf (recordedPartitions b) i ≡ memberOf (b .members) i .partition
-  in-partition i below = recorded o limits done i below
-
-  partition-right : (i : ℕ) → i < b .partitions → PartitionRight (o .processors) (b .places) i
-  partition-right i below =
+  zero-past : ZeroPast b
+  unfolding buildOf
+  zero-past =
       record {
-        some = its .placed .volume-least i below;
-        inside = its .placed .inside i below;
-        apart = λ j earlier both. omega (arith, its .placed .apart j i earlier below, both .1 .upto, both .2 .from);
+        places-length = places o limits s fits .laid .long;
+        members-length = length-filled (recordedAs o (s .homes)) zeroMember mostTasks (o .tasks) (limits .tasks .1);
+        places-past = placed .zero-past;
+        members-past = λ i l. its .zero-past i l;
       }
 
-  accepted : Accepted o b
-  unfolding partitionsOf
+  -- the bytes hold the build
+  holds : Holds (buildBytes b) b
+  holds = subst (λ (x : List ℕ). Holds x b) (append-nil (buildBytes b)) (reads-back b [] (built-fits o b limits its) zero-past)
+
+  -- 24 to 30, of the build itself
+  partition-right : (p : ℕ) → p < b .partitions → PartitionRight (o .processors) b p
+  unfolding AmongLowest processorOf volumeOf
+  partition-right p below =
+      record {
+        some = placed .volume-least p below;
+        inside = λ x of. (let at = of .2 in omega (arith, placed .inside p below, of .1, at));
+        apart = λ earlier l both.
+            (let one = both .1 in
+            let other = both .2 in
+            let first = one .2 in
+            let second = other .2 in
+            omega (arith, placed .apart earlier p l below, one .1, first, second));
+      }
+
+  accepted : AcceptedBuild o b
   accepted =
       record {
         limits = limits;
         processors = its .processors;
         tasks = its .tasks;
-        partitions = (its .placed .some, omega (arith, its .placed .few, limits .tasks));
-        sound = limits-sound o limits;
+        partitions = (placed .some, omega (arith, placed .few, limits .tasks));
         places = partition-right;
-        widths = λ i below. record { there = rw (in-partition i below) at (its .placed .in-one i below); wide = rw (in-partition i below) at (its .placed .wide i below) };
+        widths = λ i below. (let home = its .placed .1 .0 i below in record { there = rw home (placed .in-one i below); wide = rw home (placed .wide i below) });
         ranks = its .ranks;
         passing = its .responses;
       }
@@ -119,13 +143,21 @@ module _ (order : List ℕ) (rules : allHold (orderRules order)) {count : ℕ} (
         };
       }
 
-  checked : checkAnswer order (buildBytes b) ≡ Done 0
-  checked = accepted-done order (buildBytes b) order-right layout-right (subst (λ (x : Build). Accepted o x) (sym (holds .build)) accepted)
+  pub checked : checkAnswer order (buildBytes b) ≡ Done 0
+  checked = accepted-done order (buildBytes b) order-right layout-right (subst (λ (x : Build). AcceptedBuild o x) (sym (holds .build)) accepted)
+
+-- the same of whatever first fit gives
+fitted-checked : (order : List ℕ) → AllPass (orderRules order) → (done : ℕ) → fittedOf (orderAt order) .answer ≡ Done done → checkAnswer order (buildBytes (fittedOf (orderAt order) .build)) ≡ Done 0
+fitted-checked order rules done e = go (one-of-two (orderAt order) (within-limits order rules))
+  where
+    go : ((s : Placing) × (firstFit (orderAt order) ≡ goingOn s)) ⊎ ((s : Placing) × ((i : ℕ) × (firstFit (orderAt order) ≡ refusing s i))) → checkAnswer order (buildBytes (fittedOf (orderAt order) .build)) ≡ Done 0
+    go (inl (s, f)) = subst (λ (x : Fitted). checkAnswer order (buildBytes (x .build)) ≡ Done 0) (sym (fitted-done (orderAt order) s f)) (checked order rules s f)
+    go (inr (s, (i, f))) = never (sym (ap (λ (x : Fitted). x .answer) (fitted-refused (orderAt order) s i f)) ∙ e)
 
 pub planned-is-accepted : PlannedIsAccepted
 planned-is-accepted order output answer after count p e =
     let rules = order-rules order output answer after count p e in
-    let done = fit-done order output answer after count p e .1 in
+    let done = fit-done order output answer after count p e in
     let b = fittedOf (orderAt order) .build in
     let front : after ≡ buildBytes b ++ drop count output = p .written ∙ ap (λ (a : Answer). outputAfter a (buildBytes b) output) e ∙ after-done count (buildBytes b) output in
-    rw (front, take-at (buildBytes b) (drop count output) count (length-right b ∙ sym (counted order output answer after count p e))) (checked order rules done)
+    rw (front, take-at (buildBytes b) (drop count output) count (length-right b ∙ sym (counted order output answer after count p e))) (fitted-checked order rules (done .0) (done .1))
