@@ -25,10 +25,10 @@ use Rattle.inspect_members.proofs.Rules.{widths-tell, ranks-tell, wide-at}
 use Rattle.inspect_tests.specs.Rules.{testRules}
 use Rattle.inspect_tests.specs.Results.{RanksRecorded}
 use Rattle.inspect_tests.proofs.Verdicts.{tests-tell}
-use Rattle.inspect.specs.Rules.{recordRules, buildRules, checkRules}
+use Rattle.inspect.specs.Rules.{buildRecordRules, buildRules, checkRules}
 
-records-tell : (o : Order) (b : Build) → WithinLimits o → TestsTell (recordRules o b)
-unfolding recordRules
+records-tell : (o : Order) (b : Build) → WithinLimits o → TestsTell (buildRecordRules o b)
+unfolding buildRecordRules
 records-tell o b limits =
     tell-append (placeRules o b) (widthRules o b ++ (rankRules o b ++ testRules o b)) (places-tell o b)
     (λ _. tell-append (widthRules o b) (rankRules o b ++ testRules o b) (widths-tell o b)
@@ -36,7 +36,7 @@ records-tell o b limits =
 
 build-tells : (o : Order) (s : List ℕ) → WithinLimits o → TestsTell (buildRules o s)
 unfolding buildRules
-build-tells o s limits = tell-append (buildLayoutRules o s) (recordRules o (buildAt s)) (layout-tells o s) (λ _. records-tell o (buildAt s) limits)
+build-tells o s limits = tell-append (buildLayoutRules o s) (buildRecordRules o (buildAt s)) (layout-tells o s) (λ _. records-tell o (buildAt s) limits)
 
 pub check-tells : (order build : List ℕ) → TestsTell (checkRules order build)
 unfolding checkRules

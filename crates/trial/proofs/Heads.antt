@@ -30,7 +30,7 @@ module _ (rows : List ℕ) (count : ℕ) (fit : RowsFit rows count) where
   asks-between g rank w le =
       let e : rank ≡ g + (rank - g) = omega arith in
       let split : sum (λ r. workBy (rowTask rows r) w) rank ≡ sum (λ r. workBy (rowTask rows r) w) g + sum (λ s. workBy (rowTask rows (g + s)) w) (rank - g) =
-            ap (sum (λ r. workBy (rowTask rows r) w)) e ∙ sum-split (λ r. workBy (rowTask rows r) w) g (rank - g) in
+      ap (sum (λ r. workBy (rowTask rows r) w)) e ∙ sum-split (λ r. workBy (rowTask rows r) w) g (rank - g) in
       omega (arith, split, sum-le (λ s. costAt rows (g + s)) (λ s. workBy (rowTask rows (g + s)) w) (rank - g) (λ s l. once (g + s) w))
 
   -- a longer blocking that the members between make up for
@@ -80,7 +80,7 @@ pub between-most : (rows : List ℕ) (count : ℕ) → RowsFit rows count → (g
 unfolding cost
 between-most rows count fit g rank le = sum-most (λ s. costAt rows (g + s)) 1_000_000 (rank - g) (λ s l. cost-most rows count fit (g + s) (omega arith))
 
-pub blocking-most : (rows : List ℕ) (count : ℕ) → RowsFit rows count → (rank : ℕ) → blockingIn rows count rank ≤ 1_000_000
+pub blocking-in-most : (rows : List ℕ) (count : ℕ) → RowsFit rows count → (rank : ℕ) → blockingIn rows count rank ≤ 1_000_000
 unfolding blockingIn cost
-blocking-most rows count fit rank =
+blocking-in-most rows count fit rank =
     omega (arith, largest-le (λ s. costAt rows (rank + 1 + s)) (count - (rank + 1)) 1_000_000 (λ s l. cost-most rows count fit (rank + 1 + s) (omega arith)))

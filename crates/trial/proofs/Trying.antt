@@ -18,7 +18,7 @@ use Rattle.asked.specs.Rows.{blockingIn}
 use Rattle.verdict.specs.declared.Tested.{Tested}
 use Rattle.verdict.specs.Tested.{TestedAs}
 use Rattle.roster.specs.Keys.{numberAt}
-use Rattle.trial.specs.Known.{ofRank, Bounds, passesAt, verdictAt, OnlyRanks, TestedFrom, Shielded, Before, After, TriedAs}
+use Rattle.trial.specs.Known.{ofRank, Bounds, passesAt, verdictAt, OnlyRanks, TestedFrom, Shielded, OthersTested, Before, After, TriedAs}
 use Rattle.trial.proofs.Testing.{passes-is, put-own, put-others, rank-kept, bounds-put}
 
 -- one that fails among some is enough
@@ -31,6 +31,35 @@ every-part passes n from k le fails = go (every passes n) refl
 
 pub refused-as : (rows keys : List ℕ) (count : ℕ) (lasts worsts : List ℕ) → every (passesAt rows count) count ≡ false → TriedAs rows keys count lasts worsts false lasts worsts
 refused-as rows keys count lasts worsts fails = record { all-pass = sym fails; taken = λ p. clash p; refused = λ p. (refl, refl) }
+
+-- the others tested, higher and lower
+module _ (rows keys : List ℕ) (count newcomer : ℕ) (lasts worsts : List ℕ) (inside : newcomer < count) (first : ℕ) (upto : first ≤ newcomer) (shields : (h : ℕ) → h < first → Shielded rows count newcomer h)
+    (p₁ : Bool) (lasts₁ worsts₁ : List ℕ) (one : TestedFrom rows keys count first newcomer lasts worsts p₁ lasts₁ worsts₁) where
+  pub higher-fails : p₁ ≡ false → OthersTested rows keys count newcomer lasts worsts false lasts₁ worsts₁
+  higher-fails p =
+      record {
+        first = first;
+        upto = upto;
+        shields = shields;
+        fails = λ x. every-part (passesAt rows count) count first (newcomer - first) (omega (arith, inside, upto)) (sym (one .all-pass) ∙ p);
+        lasts-between = lasts₁;
+        worsts-between = worsts₁;
+        higher = λ x. clash x;
+        lower = λ x. clash x;
+      }
+
+  pub lower-tested : (p₂ : Bool) (lasts₂ worsts₂ : List ℕ) → p₁ ≡ true → TestedFrom rows keys count (newcomer + 1) count lasts₁ worsts₁ p₂ lasts₂ worsts₂ → OthersTested rows keys count newcomer lasts worsts p₂ lasts₂ worsts₂
+  lower-tested p₂ lasts₂ worsts₂ p two =
+      record {
+        first = first;
+        upto = upto;
+        shields = shields;
+        fails = λ x. every-part (passesAt rows count) count (newcomer + 1) (count - (newcomer + 1)) (omega (arith, inside)) (sym (two .all-pass) ∙ x);
+        lasts-between = lasts₁;
+        worsts-between = worsts₁;
+        higher = λ x. subst (λ (b : Bool). TestedFrom rows keys count first newcomer lasts worsts b lasts₁ worsts₁) p one;
+        lower = λ x. subst (λ (b : Bool). TestedFrom rows keys count (newcomer + 1) count lasts₁ worsts₁ b lasts₂ worsts₂) x two;
+      }
 
 module _ (rows keys : List ℕ) (count newcomer : ℕ) (lasts worsts : List ℕ) (inside : newcomer < count) (known : Before rows keys count newcomer lasts worsts)
     (t : Tested) (is : TestedAs rows newcomer (blockingIn rows count newcomer) t) where
@@ -49,14 +78,22 @@ module _ (rows keys : List ℕ) (count newcomer : ℕ) (lasts worsts : List ℕ)
   pub places-first : length worsts-first ≡ mostTasks
   places-first = length-set worsts (numberAt keys newcomer) (t .worst) ∙ known .places
 
-  module _ (first : ℕ) (upto : first ≤ newcomer) (shields : (h : ℕ) → h < first → Shielded rows count newcomer h)
-      (p₁ : Bool) (lasts₁ worsts₁ : List ℕ) (one : TestedFrom rows keys count first newcomer lasts-first worsts-first p₁ lasts₁ worsts₁) where
-    pub higher-fails : p₁ ≡ false → TriedAs rows keys count lasts worsts false lasts worsts
-    higher-fails p = refused-as rows keys count lasts worsts (every-part (passesAt rows count) count first (newcomer - first) (omega (arith, inside, upto)) (sym (one .all-pass) ∙ p))
+  module _ (lasts₂ worsts₂ : List ℕ) (p₂ : Bool) (others : OthersTested rows keys count newcomer lasts-first worsts-first p₂ lasts₂ worsts₂) where
+    pub others-fail : p₂ ≡ false → TriedAs rows keys count lasts worsts false lasts worsts
+    others-fail p = refused-as rows keys count lasts worsts (others .fails p)
 
-    module _ (p₂ : Bool) (lasts₂ worsts₂ : List ℕ) (two : TestedFrom rows keys count (newcomer + 1) count lasts₁ worsts₁ p₂ lasts₂ worsts₂) where
-      pub lower-fails : p₂ ≡ false → TriedAs rows keys count lasts worsts false lasts worsts
-      lower-fails p = refused-as rows keys count lasts worsts (every-part (passesAt rows count) count (newcomer + 1) (count - (newcomer + 1)) (omega (arith, inside)) (sym (two .all-pass) ∙ p))
+    module _ (q : p₂ ≡ true) where
+      abbrev first : ℕ
+      first = others .first
+
+      abbrev worsts₁ : List ℕ
+      worsts₁ = others .worsts-between
+
+      abbrev one : TestedFrom rows keys count first newcomer lasts-first worsts-first true (others .lasts-between) worsts₁
+      one = others .higher q
+
+      abbrev two : TestedFrom rows keys count (newcomer + 1) count (others .lasts-between) worsts₁ true lasts₂ worsts₂
+      two = others .lower q
 
       -- those up to the newcomer keep what is known of them
       kept-below : (h : ℕ) → h ≤ newcomer → ofRank keys worsts₂ h ≡ ofRank keys worsts₁ h
@@ -74,17 +111,17 @@ module _ (rows keys : List ℕ) (count newcomer : ℕ) (lasts worsts : List ℕ)
           b j (λ r f u. outside r (omega arith) u) ∙ a j (λ r f u. outside r (omega arith) (omega (arith, u, inside)))
           ∙ getD-set-other before (numberAt keys newcomer) j v 0 (λ e. outside newcomer (omega arith) inside (sym e))
 
-      module _ (p : t .passes ≡ true) (q₁ : p₁ ≡ true) (q₂ : p₂ ≡ true) where
+      module _ (p : t .passes ≡ true) where
         stands-first : (h : ℕ) → h < first → verdictAt rows count h ≡ Passes (ofRank keys worsts₂ h)
         stands-first h l =
-            known .stands h (omega (arith, l, upto)) (shields h l)
-            ∙ ap Passes (sym (kept-below h (omega (arith, l, upto)) ∙ kept-above h (omega (arith, l, upto, inside)) (λ r f u e. omega (arith, f, e, l)) ∙ put-others keys worsts newcomer (t .worst) count h (known .apart) inside (omega (arith, l, upto, inside)) (λ e. omega (arith, e, l, upto))))
+            known .stands h (omega (arith, l, others .upto)) (others .shields h l)
+            ∙ ap Passes (sym (kept-below h (omega (arith, l, others .upto)) ∙ kept-above h (omega (arith, l, others .upto, inside)) (λ r f u e. omega (arith, f, e, l)) ∙ put-others keys worsts newcomer (t .worst) count h (known .apart) inside (omega (arith, l, others .upto, inside)) (λ e. omega (arith, e, l, others .upto))))
 
         stands-higher : (h : ℕ) → first ≤ h → h < newcomer → verdictAt rows count h ≡ Passes (ofRank keys worsts₂ h)
         stands-higher h f l =
             let here : first + (h - first) ≡ h = omega arith in
-            stand-from h (sym (ap (passesAt rows count) here) ∙ every-at (λ x. passesAt rows count (first + x)) (newcomer - first) (sym (one .all-pass) ∙ q₁) (h - first) (omega (arith, f, l)))
-            (kept-below h (omega (arith, l)) ∙ one .responses q₁ h f l)
+            stand-from h (sym (ap (passesAt rows count) here) ∙ every-at (λ x. passesAt rows count (first + x)) (newcomer - first) (sym (one .all-pass)) (h - first) (omega (arith, f, l)))
+            (kept-below h (omega (arith, l)) ∙ one .responses refl h f l)
 
         stands-newcomer : verdictAt rows count newcomer ≡ Passes (ofRank keys worsts₂ newcomer)
         stands-newcomer =
@@ -94,8 +131,8 @@ module _ (rows keys : List ℕ) (count newcomer : ℕ) (lasts worsts : List ℕ)
         stands-lower : (h : ℕ) → newcomer < h → h < count → verdictAt rows count h ≡ Passes (ofRank keys worsts₂ h)
         stands-lower h f l =
             let here : newcomer + 1 + (h - (newcomer + 1)) ≡ h = omega arith in
-            stand-from h (sym (ap (passesAt rows count) here) ∙ every-at (λ x. passesAt rows count (newcomer + 1 + x)) (count - (newcomer + 1)) (sym (two .all-pass) ∙ q₂) (h - (newcomer + 1)) (omega (arith, f, l)))
-            (two .responses q₂ h (omega (arith, f)) l)
+            stand-from h (sym (ap (passesAt rows count) here) ∙ every-at (λ x. passesAt rows count (newcomer + 1 + x)) (count - (newcomer + 1)) (sym (two .all-pass)) (h - (newcomer + 1)) (omega (arith, f, l)))
+            (two .responses refl h (omega (arith, f)) l)
 
         stands-all : (h : ℕ) → h < count → verdictAt rows count h ≡ Passes (ofRank keys worsts₂ h)
         stands-all h l = elim (decLt h first) [
@@ -117,7 +154,7 @@ module _ (rows keys : List ℕ) (count newcomer : ℕ) (lasts worsts : List ℕ)
                 bounds = two .bounds;
                 places = two .places;
                 stand = stands-all;
-                other-lasts = only-all lasts lasts₁ lasts₂ (t .last) (one .other-lasts) (two .other-lasts);
+                other-lasts = only-all lasts (others .lasts-between) lasts₂ (t .last) (one .other-lasts) (two .other-lasts);
                 other-worsts = only-all worsts worsts₁ worsts₂ (t .worst) (one .other-worsts) (two .other-worsts);
               };
               refused = λ x. clash (sym x);

@@ -57,6 +57,17 @@ pub record Shielded (rows : List ℕ) (count newcomer h : ℕ) : Type 0 where
   pub another : by ≢ newcomer
   pub long : costAt rows newcomer ≤ costAt rows by
 
+-- the others tested with a newcomer: from the first that nothing shields to before it, then those below it
+pub record OthersTested (rows keys : List ℕ) (count newcomer : ℕ) (lasts worsts : List ℕ) (passes : Bool) (lasts′ worsts′ : List ℕ) : Type 0 where
+  pub first : ℕ
+  pub upto : first ≤ newcomer
+  pub shields : (h : ℕ) → h < first → Shielded rows count newcomer h
+  pub fails : passes ≡ false → every (passesAt rows count) count ≡ false
+  pub lasts-between : List ℕ
+  pub worsts-between : List ℕ
+  pub higher : passes ≡ true → TestedFrom rows keys count first newcomer lasts worsts true lasts-between worsts-between
+  pub lower : passes ≡ true → TestedFrom rows keys count (newcomer + 1) count lasts-between worsts-between true lasts′ worsts′
+
 -- what is known before a newcomer is tried
 pub record Before (rows keys : List ℕ) (count newcomer : ℕ) (lasts worsts : List ℕ) : Type 0 where
   pub apart : Apart keys count

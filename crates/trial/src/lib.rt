@@ -11,7 +11,7 @@ ghost use Rattle.model.specs.Limits.{mostTasks};
 ghost use Rattle.asked.specs.Rows.{RowsFit, costAt, askedBy, blockingIn};
 ghost use Rattle.asked.specs.Met.{UnmetBelow};
 ghost use Rattle.verdict.specs.Tested.{TestedAs};
-ghost use Rattle.trial.specs.Known.{Apart, Bounds, TestedFrom, Shielded, Before, TriedAs};
+ghost use Rattle.trial.specs.Known.{Apart, Bounds, TestedFrom, Shielded, OthersTested, Before, TriedAs};
 
 // The largest cost from a rank on.
 fn longest(rows: &[u32; ROWS], from: usize, count: usize) -> u32
@@ -121,7 +121,26 @@ fn first_blocked(rows: &[u32; ROWS], count: usize, newcomer: usize) -> usize
     0
 }
 
-// A newcomer among the members: it is tested first, then those that it blocks longer, then those below it.
+// Those that a newcomer blocks longer, then those below it, until one fails.
+fn test_others(
+    rows: &[u32; ROWS],
+    keys: &[u32; Order::MOST_TASKS],
+    count: usize,
+    newcomer: usize,
+    lasts: &mut [u32; Order::MOST_TASKS],
+    worsts: &mut [u32; Order::MOST_TASKS],
+) -> bool
+    requires { ⌜ (newcomer < count) × RowsFit (now rows) count × Apart (now keys) count × Bounds (now rows) (now keys) count (now lasts) × (length (now worsts) ≡ mostTasks) ⌝ }
+    ensures { λ r. ⌜ OthersTested (now (rows .entry)) (now (keys .entry)) count newcomer (now (lasts .entry)) (now (worsts .entry)) r (now (lasts .exit)) (now (worsts .exit)) ⌝ }
+{
+    let first = first_blocked(rows, count, newcomer);
+    if !test_from(rows, keys, count, first, newcomer, lasts, worsts) {
+        return false;
+    }
+    test_from(rows, keys, count, newcomer + 1, count, lasts, worsts)
+}
+
+// A newcomer among the members: it is tested first, then the others that it touches.
 pub fn tries(
     rows: &[u32; ROWS],
     keys: &[u32; Order::MOST_TASKS],
@@ -142,11 +161,7 @@ pub fn tries(
     let mut new_worsts = *worsts;
     new_lasts[number] = tested.last;
     new_worsts[number] = tested.worst;
-    let first = first_blocked(rows, count, newcomer);
-    if !test_from(rows, keys, count, first, newcomer, &mut new_lasts, &mut new_worsts) {
-        return false;
-    }
-    if !test_from(rows, keys, count, newcomer + 1, count, &mut new_lasts, &mut new_worsts) {
+    if !test_others(rows, keys, count, newcomer, &mut new_lasts, &mut new_worsts) {
         return false;
     }
     *lasts = new_lasts;

@@ -11,7 +11,7 @@ use Rattle.asked.specs.Rows.{askedBy, rowTask, blockingIn}
 use Rattle.asked.proofs.Rows.{fit-fewer}
 use Rattle.asked.specs.Met.{UnmetBelow}
 use Rattle.verdict.specs.Tested.{isThere, windowOf}
-use Rattle.trial.proofs.Heads.{blocking-most}
+use Rattle.trial.proofs.Heads.{blocking-in-most}
 use Rattle.roster.specs.Keys.{homeIn, keyAt}
 use Rattle.roster.specs.Lined.{partSize}
 use Rattle.inspect_tests.specs.Results.{TaskThere}
@@ -79,7 +79,7 @@ has-window-requires c κs =
     let a = s .args in
     let n = needs-here f in
     let rank = a .member .rank in
-    let most = blocking-most _ (m .members-of .result) (n .rows-fit) rank in (
+    let most = blocking-in-most _ (m .members-of .result) (n .rows-fit) rank in (
       fit-fewer _ (m .members-of .result) (rank + 1) (omega (arith, n .inside)) (n .rows-fit),
       omega (arith, most, k .blocking .ensures),
       s .pre .3 .still .near,

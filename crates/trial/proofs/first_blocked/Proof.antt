@@ -46,10 +46,12 @@ loop-holds : tie.Need-loop-holds Inv-loop μ-loop
 loop-holds c =
     let start = c .before .before in
     let a = start .args in
-    let f : ℕ → ℕ = λ s. costAt (a .rows .now) (a .newcomer + 1 + s) in
-    (omega arith, λ le.
-      let found = largest-reaches f (a .count - (a .newcomer + 1)) (costAt (a .rows .now) (a .newcomer)) (some-cost (a .rows .now) (a .count) (start .pre .1) (a .newcomer) (start .pre .0)) (omega (arith, le, c .longest .ensures)) in
-      (a .newcomer + 1 + found .0, omega arith, omega (arith, found .1), (λ e. omega (arith, e)), found .2))
+    let f : ℕ → ℕ = λ s. costAt (a .rows .now) (a .newcomer + 1 + s) in (
+      omega arith,
+      λ le.
+          let found = largest-reaches f (a .count - (a .newcomer + 1)) (costAt (a .rows .now) (a .newcomer)) (some-cost (a .rows .now) (a .count) (start .pre .1) (a .newcomer) (start .pre .0)) (omega (arith, le, c .longest .ensures)) in
+          (a .newcomer + 1 + found .0, omega arith, omega (arith, found .1), (λ e. omega (arith, e)), found .2),
+    )
 
 -- src/lib.rt:116:13
 returns : tie.Need-returns Inv-loop μ-loop

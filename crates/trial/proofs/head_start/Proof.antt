@@ -6,7 +6,7 @@ use lib.ListN.{getD}
 use Rattle.asked.specs.Rows.{costAt, askedBy, blockingIn}
 use Rattle.asked.specs.Met.{UnmetBelow}
 use Rattle.trial.specs.Known.{ofRank}
-use Rattle.trial.proofs.Heads.{between, between-none, between-more, between-most, blocking-most, each-cost, head}
+use Rattle.trial.proofs.Heads.{between, between-none, between-more, between-most, blocking-in-most, each-cost, head}
 use Rattle.trial.proofs.head_start.Statement.{statement}
 use Rattle.trial.proofs.head_start.Tie as tie
 use Rattle.trial.proofs.head_start.Reads as reads
@@ -36,7 +36,7 @@ element-copy-out-own c = search needs
 add-covered : tie.Need-add-covered Inv-loop μ-loop
 add-covered c =
     let start = c .before in
-    record { fits = omega (arith, start .pre .2, blocking-most (start .args .rows .now) (start .args .count) (start .pre .1) (start .args .rank)) }
+    record { fits = omega (arith, start .pre .2, blocking-in-most (start .args .rows .now) (start .args .count) (start .pre .1) (start .args .rank)) }
 
 -- src/lib.rt:53:5
 loop-holds : tie.Need-loop-holds Inv-loop μ-loop
@@ -79,9 +79,9 @@ returns c =
     let is : getD (a .lasts .now) (c .before .number-in .result) 0 ≡ ofRank (a .keys .now) (a .lasts .now) (g - 1) = ap (λ (x : ℕ). getD (a .lasts .now) x 0) (c .before .number-in .ensures) in
     let last = ofRank (a .keys .now) (a .lasts .now) (g - 1) in
     let unmet : UnmetBelow (askedBy (a .rows .now) g) (blockingIn (a .rows .now) (a .count) (g - 1)) last =
-          subst (λ (x : ℕ). UnmetBelow (askedBy (a .rows .now) x) (blockingIn (a .rows .now) (a .count) (g - 1)) last) e (known .unmet (g - 1) inside) in
+    subst (λ (x : ℕ). UnmetBelow (askedBy (a .rows .now) x) (blockingIn (a .rows .now) (a .count) (g - 1)) last) e (known .unmet (g - 1) inside) in
     let own : costAt (a .rows .now) (a .rank) ≤ blockingIn (a .rows .now) (a .count) (a .rank) + 2 + between (a .rows .now) g (a .rank) =
-          omega (arith, c .before .before .before .if1 .taken, loop .inv .1, start .pre .2) in
+    omega (arith, c .before .before .before .if1 .taken, loop .inv .1, start .pre .2) in
     let open-till = head (a .rows .now) (a .count) (start .pre .1) g (a .rank) last (c .before .before .before .before .loop-test .taken) (loop .inv .0) (start .pre .0) own unmet in
     (omega (arith, is, known .near (g - 1) inside), λ s l. omega (arith, start .pre .2, open-till s (omega (arith, is, l))))
 
@@ -107,7 +107,7 @@ add-covered-3 c =
     let start = c .before .before .before .before .before in
     let a = start .args in
     let loop = c .before .before .before .loop in
-    let m = blocking-most (a .rows .now) (a .count) (start .pre .1) (a .rank) in
+    let m = blocking-in-most (a .rows .now) (a .count) (start .pre .1) (a .rank) in
     let one : costAt (a .rows .now) (loop .g - 1) ≤ 1_000_000 = each-cost (a .rows .now) (a .count) (start .pre .1) (loop .g - 1) (omega (arith, start .pre .0, loop .inv .0, c .before .before .loop-test .taken)) in
     let b = between-most (a .rows .now) (a .count) (start .pre .1) (loop .g) (a .rank) (omega (arith, start .pre .0)) in
     record { fits = omega (arith, m, one, b, start .pre .0, start .pre .2, start .pre .1 .few, loop .inv .1) }

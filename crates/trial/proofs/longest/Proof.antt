@@ -21,7 +21,7 @@ abbrev μ-loop : tie.MeasureT-loop
 
 -- src/lib.rt:23:5
 loop-holds : tie.Need-loop-holds Inv-loop μ-loop
-loop-holds c = 
+loop-holds c =
     let a = c .args in
     let e : a .from - a .from ≡ 0 = omega arith in
     (omega arith, c .pre .0, sym (ap (largest (λ s. costAt (a .rows .now) (a .from + s))) e ∙ largest-none (λ s. costAt (a .rows .now) (a .from + s))))
@@ -52,19 +52,21 @@ loop-less c = search needs
 
 -- src/lib.rt:23:5
 loop-again : tie.Need-loop-again Inv-loop μ-loop
-loop-again c = 
+loop-again c =
     let a = c .before .before .before .before .args in
     let loop = c .before .before .before .loop in
     let f : ℕ → ℕ = λ s. costAt (a .rows .now) (a .from + s) in
     let e : loop .r + 1 - a .from ≡ loop .r - a .from + 1 = omega (arith, loop .inv .0) in
-    let at : a .from + (loop .r - a .from) ≡ loop .r = omega (arith, loop .inv .0) in
-    (omega (arith, loop .inv .0), omega (arith, c .before .before .loop-test .taken),
-    c .larger .ensures ∙ ap (λ (x : ℕ). max x (costAt (a .rows .now) (loop .r))) (loop .inv .2) ∙ ap (λ (x : ℕ). max (largest f (loop .r - a .from)) (costAt (a .rows .now) x)) (sym at)
-    ∙ sym (largest-more f (loop .r - a .from)) ∙ ap (largest f) (sym e))
+    let at : a .from + (loop .r - a .from) ≡ loop .r = omega (arith, loop .inv .0) in (
+      omega (arith, loop .inv .0),
+      omega (arith, c .before .before .loop-test .taken),
+      c .larger .ensures ∙ ap (λ (x : ℕ). max x (costAt (a .rows .now) (loop .r))) (loop .inv .2) ∙ ap (λ (x : ℕ). max (largest f (loop .r - a .from)) (costAt (a .rows .now) x)) (sym at)
+          ∙ sym (largest-more f (loop .r - a .from)) ∙ ap (largest f) (sym e),
+    )
 
 -- src/lib.rt:17:1
 returns : tie.Need-returns Inv-loop μ-loop
-returns c = 
+returns c =
     let a = c .before .before .args in
     let loop = c .before .loop in
     loop .inv .2 ∙ ap (λ (k : ℕ). largest (λ s. costAt (a .rows .now) (a .from + s)) (k - a .from)) (le-antisymm (loop .inv .1) (c .loop-test .left))

@@ -87,11 +87,13 @@ loop-again c =
     let a = start .args in
     let loop = c .before .before .before .before .before .before .before .loop in
     let here = c .before .before .before .before .before .before .loop-test .taken in
-    let tested = c .before .before .before .before .test-rank in
-    (omega (arith, loop .inv .0), omega (arith, here),
-    subst (λ (n : ℕ). TestedFrom (a .rows .now) (a .keys .now) (a .count) (a .from) (loop .rank + 1) (a .lasts .now) (a .worsts .now) true (set (loop .lasts) n (tested .result .last)) (set (loop .worsts) n (tested .result .worst))) (sym (c .number-in .ensures))
-    (tested-more (a .rows .now) (a .keys .now) (a .count) (a .from) (start .pre .3) (a .lasts .now) (a .worsts .now) (loop .rank) (loop .lasts) (loop .worsts) (loop .inv .0) (omega (arith, here, start .pre .1)) (loop .inv .2)
-      (tested .result) (tested .ensures) (not-false _ (c .before .before .if1 .left))))
+    let tested = c .before .before .before .before .test-rank in (
+      omega (arith, loop .inv .0),
+      omega (arith, here),
+      subst (λ (n : ℕ). TestedFrom (a .rows .now) (a .keys .now) (a .count) (a .from) (loop .rank + 1) (a .lasts .now) (a .worsts .now) true (set (loop .lasts) n (tested .result .last)) (set (loop .worsts) n (tested .result .worst))) (sym (c .number-in .ensures))
+          (tested-more (a .rows .now) (a .keys .now) (a .count) (a .from) (start .pre .3) (a .lasts .now) (a .worsts .now) (loop .rank) (loop .lasts) (loop .worsts) (loop .inv .0) (omega (arith, here, start .pre .1)) (loop .inv .2)
+          (tested .result) (tested .ensures) (not-false _ (c .before .before .if1 .left))),
+    )
 
 -- src/lib.rt:80:1
 returns-2 : tie.Need-returns-2 Inv-loop μ-loop

@@ -4,7 +4,7 @@ use mathlib.Core.Path.{_≡_, subst}
 use Prim.Native.Nat.{ℕ, _+_}
 use Rattle.asked.proofs.Rows.{fit-fewer}
 use Rattle.verdict.specs.Tested.{TestedAs}
-use Rattle.trial.proofs.Heads.{blocking-most}
+use Rattle.trial.proofs.Heads.{blocking-in-most}
 use Rattle.trial.proofs.test_rank.Statement.{statement}
 use Rattle.trial.proofs.test_rank.Tie as tie
 use Rattle.trial.proofs.test_rank.Reads as reads
@@ -25,10 +25,12 @@ head-start-requires c κs = search needs
 test-requires : tie.Need-test-requires
 test-requires c κs =
     let start = c .before .before in
-    let a = start .args in
-    (fit-fewer (a .rows .now) (a .count) (a .rank + 1) (omega (arith, start .pre .0)) (start .pre .1),
-    omega (arith, c .before .blocking .ensures, blocking-most (a .rows .now) (a .count) (start .pre .1) (a .rank)),
-    c .head-start .ensures .0, c .head-start .ensures .1)
+    let a = start .args in (
+      fit-fewer (a .rows .now) (a .count) (a .rank + 1) (omega (arith, start .pre .0)) (start .pre .1),
+      omega (arith, c .before .blocking .ensures, blocking-in-most (a .rows .now) (a .count) (start .pre .1) (a .rank)),
+      c .head-start .ensures .0,
+      c .head-start .ensures .1,
+    )
 
 -- src/lib.rt:64:1
 returns : tie.Need-returns
