@@ -12,7 +12,7 @@ use Rattle.model.specs.Limits.{emptyBuild, emptyOrder}
 use Rattle.model.specs.Rules.{WithinLimits, firstBroken}
 use Rattle.model.proofs.Rules.{AllPass, done-pass, done-count}
 use Rattle.order.specs.Order.{Reads, orderAt, orderRules}
-use Rattle.order.proofs.Reading.{read-answer, read-rules, read-order, within-limits}
+use Rattle.order.proofs.Reading.{read-answer, read-order, within-limits}
 use Rattle.build.specs.Build.{buildAt}
 use Rattle.inspect_layout.specs.declared.Laid.{Laid}
 use Rattle.inspect_layout.specs.Rules.{buildLayoutRules, laidBy, LaysOut}

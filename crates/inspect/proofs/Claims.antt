@@ -10,10 +10,10 @@ use Rattle.model.specs.declared.answer.Answer.the-variants.{Done, Refused}
 use Rattle.model.specs.Limits.{taskOf, memberOf, homeOf}
 use Rattle.model.specs.Answer.{answerCount}
 use Rattle.model.specs.Rules.{WithinLimits, AllKept, RightAnswer, OneRightAnswer, taskRules, rangeRules}
-use Rattle.model.proofs.Rules.{AllPass, done-pass, pass-done, pass-front, kept-append, kept-front, kept-rest, kept-at, kept-all, pass-kept, kept-pass, one-right-answer}
+use Rattle.model.proofs.Rules.{done-pass, pass-done, pass-front, kept-append, kept-front, kept-rest, kept-at, kept-all, pass-kept, kept-pass, one-right-answer}
 use Rattle.order.specs.Order.{headerOf, orderAt, headerRules, spareRules, layoutRules, orderRules}
 use Rattle.order.proofs.Reading.{within-limits}
-use Rattle.build.specs.Build.{buildHeaderOf, buildAt}
+use Rattle.build.specs.Build.{buildAt}
 use Rattle.demand.specs.declared.Verdict.the-variants.{Passes}
 use Rattle.demand.specs.Priority.{membersOf}
 use Rattle.demand.specs.Test.{verdict}

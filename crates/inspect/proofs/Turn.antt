@@ -1,12 +1,11 @@
 -- Every rule's test tells, where those of the rules before it passed; and what passed rules give to the next part.
-use mathlib.Core.Path.{_≡_, sym}
 use mathlib.Core.List.{List, _++_}
-use Prim.Native.Nat.{ℕ, _≤_, _<_}
+use Prim.Native.Nat.{ℕ, _≤_}
 use native.Mathlib.Omega.{arith}
 use borrow.Author.Tests.{eqb-true}
 use Rattle.model.specs.declared.order.Order.{Order}
 use Rattle.model.specs.declared.build.Build.{Build}
-use Rattle.model.specs.Limits.{mostTasks, mostPartitions, memberOf, homeOf}
+use Rattle.model.specs.Limits.{mostTasks, mostPartitions}
 use Rattle.model.specs.Rules.{WithinLimits, TestsTell}
 use Rattle.model.proofs.Rules.{AllPass, tell-append, scan-at}
 use Rattle.order.specs.Order.{orderAt, orderRules}
@@ -14,7 +13,6 @@ use Rattle.order.proofs.Reading.{within-limits}
 use Rattle.order.proofs.Rules.{order-tells}
 use Rattle.build.specs.Build.{buildHeaderOf, buildAt, FieldsFit}
 use Rattle.build.proofs.Fits.{build-fits}
-use Rattle.demand.specs.Priority.{membersOf, rank}
 use Rattle.inspect_layout.specs.Rules.{HeaderMatches, buildLayoutRules}
 use Rattle.inspect_layout.proofs.Rules.{layout-tells, matching-tells}
 use Rattle.inspect_places.specs.Rules.{placeRules}
