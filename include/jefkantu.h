@@ -1,4 +1,29 @@
-// jefkantu.h: the planner of camera boxes for C. Link with libjefkantu.a; nothing else is needed.
+// jefkantu.h: the planner of camera boxes for C and C++. Link with libjefkantu.a, and with the C library for its memcpy
+// and memset.
+//
+// NUMBERS. The library is proved over 32-bit numbers, and C cuts a larger number to 32 bits without a word: 2^32 + 75
+// arrives as 75, -1 as a large number, 7.5 as 7. Hand numbers over by jefkantu_from_unsigned, jefkantu_from_signed,
+// jefkantu_from_real or jefkantu_from_text: whatever is no 32-bit number becomes JEFKANTU_NO_NUMBER, which is over every
+// limit, so that it is refused by name. Compile with -Wconversion, which finds the numbers that go round them.
+//
+// BYTES. An order, a build and a script are bytes; docs/FORMATS.md has each bit of them, with a sample:
+//   order:  3 bytes of header (version, M, n), then 9 for each task (m, T, D, C)
+//   build:  3 bytes of header (version, M, n, p), then 2 for each partition (volume, first processor), then 4 for each
+//           task (partition, rank, worst response)
+//   script: 6 bytes for each record (tick, task, length)
+//
+// MEMORY. What is lent is what the proofs rest on:
+// - A length counts items from its pointer on, all of them readable, or writable where the call writes.
+// - With length 0 a pointer may be NULL: nothing is read or written through it (tests/c/numbers.c tries each).
+// - A pointer to uint32_t is aligned as a uint32_t is; bytes have no alignment.
+// - What a call writes to must overlap nothing else that it is lent, and nothing may change what it is lent while it
+//   runs. What a call only reads may overlap. Each function says what that means for it. Where it is broken, the
+//   proofs say nothing of that call: neither what it answers, nor what it leaves in what it writes to, nor that it ends.
+// - The library has no state: no global, no heap, no file, no lock. Any threads may call it at once, each with its own
+//   output; the same bytes may be lent to many calls that read them.
+// - A call takes less than 16,384 bytes of stack. That is measured (tests/c/stack.c) and not proved.
+//
+// jefkantu_words.h has the words of each refusal.
 #ifndef JEFKANTU_H
 #define JEFKANTU_H
 
@@ -24,9 +49,38 @@ extern "C" {
 // An order read, as numbers: M, n, then m, T, D and C of 32 tasks, zero past the n tasks.
 #define JEFKANTU_ORDER_NUMBERS 130
 
-// Every call answers one word: number + place * 2^16 + count * 2^32.
+// What stands for a number that does not fit: as M it is refused 3, as m, T, D and C it is refused 7, 8, 9 and 10.
+#define JEFKANTU_NO_NUMBER UINT32_MAX
 
-// What a call writes to may overlap nothing else that the call is lent.
+// A 32-bit number of any unsigned one; of a signed one too, since a negative number is converted to a large one.
+static inline uint32_t jefkantu_from_unsigned(uint64_t value) {
+    return value < JEFKANTU_NO_NUMBER ? (uint32_t)value : JEFKANTU_NO_NUMBER;
+}
+
+// A 32-bit number of any signed one.
+static inline uint32_t jefkantu_from_signed(int64_t value) {
+    return value < 0 ? JEFKANTU_NO_NUMBER : jefkantu_from_unsigned((uint64_t)value);
+}
+
+// A 32-bit number of a real one that is whole; 7.5 is none.
+static inline uint32_t jefkantu_from_real(double value) {
+    if (!(value >= 0 && value < JEFKANTU_NO_NUMBER)) return JEFKANTU_NO_NUMBER;
+    uint32_t whole = (uint32_t)value;
+    return whole < value ? JEFKANTU_NO_NUMBER : whole;
+}
+
+// A 32-bit number of text that is digits and nothing else; "7,5", "7.5", "-1", " 7", "" and NULL are none.
+static inline uint32_t jefkantu_from_text(const char *text) {
+    uint64_t value = 0;
+    if (text == NULL || *text == 0) return JEFKANTU_NO_NUMBER;
+    for (; *text != 0; text++) {
+        if (*text < '0' || *text > '9') return JEFKANTU_NO_NUMBER;
+        value = jefkantu_from_unsigned(10 * value + (uint64_t)(*text - '0'));
+    }
+    return jefkantu_from_unsigned(value);
+}
+
+// Every call answers one word: number + place * 2^16 + count * 2^32.
 
 // The number of an answer: 0 is done, any other is the cause of the refusal.
 static inline uint32_t jefkantu_number(uint64_t word) { return (uint32_t)(word % 65536); }
@@ -38,10 +92,14 @@ static inline uint32_t jefkantu_place(uint64_t word) { return (uint32_t)(word / 
 static inline uint32_t jefkantu_count(uint64_t word) { return (uint32_t)(word >> 32); }
 
 // Reads an order: 1 to 6 in turn, then task by task 7 to 10; a refusal leaves the numbers as they were.
+// The numbers must not overlap the order. Where they do, the order's bytes are written over.
 uint64_t jefkantu_read_order(const uint8_t *order, size_t order_len,
                              uint32_t (*numbers)[JEFKANTU_ORDER_NUMBERS]);
 
-// Writes M and four columns as an order: 13, 3, 4, then task by task 7 to 10, then 12; a refusal leaves the output as it was, and success changes only the counted front.
+// Writes M and four columns as an order: 13, 3, 4, then task by task 7 to 10, then 12; a refusal leaves the output as it
+// was, and success changes only the counted front.
+// The output must overlap no column; columns may overlap each other. Where it does, the order that is written may be
+// another than the columns said.
 uint64_t jefkantu_write_order(uint32_t processors,
                               const uint32_t *widths, size_t widths_len,
                               const uint32_t *periods, size_t periods_len,
@@ -49,14 +107,21 @@ uint64_t jefkantu_write_order(uint32_t processors,
                               const uint32_t *runs, size_t runs_len,
                               uint8_t *out, size_t out_len);
 
-// Plans an order: the order's 1 to 10, then 11, then 12; success writes the build into the counted front of the output.
+// Plans an order: the order's 1 to 10, then 11, then 12; a refusal leaves the output as it was, and success writes the
+// build into its counted front.
+// The output must not overlap the order. Where it does, the order's bytes are written over by the build.
 uint64_t jefkantu_plan(const uint8_t *order, size_t order_len, uint8_t *out, size_t out_len);
 
 // Checks a build against an order: the order's 1 to 10, then 20 to 30; 0 says that every rule holds.
+// Nothing is written, so order and build may overlap.
 uint64_t jefkantu_check(const uint8_t *order, size_t order_len,
                         const uint8_t *build, size_t build_len);
 
-// Runs a release script through a build: the check, 40, 46, then record by record 41 to 45; success writes one finish tick per record.
+// Runs a release script through a build: the check, 40, 46, then record by record 41 to 45; a refusal leaves the output
+// as it was, and success writes one finish tick per record into its counted front.
+// The output must overlap neither the script, nor the build, nor the order; these may overlap each other. Where it
+// overlaps the script, records change while they are read: the call may never end, or answer 0 with wrong finish ticks.
+// Both were seen; docs/CLAIMS.md has the figures.
 uint64_t jefkantu_run(const uint8_t *order, size_t order_len,
                       const uint8_t *build, size_t build_len,
                       const uint8_t *script, size_t script_len,

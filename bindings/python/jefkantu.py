@@ -1,13 +1,20 @@
 """The planner of camera boxes for Python: the five operations of the proved library libjefkantu.
 
-The library is libjefkantu.so in the directory JEFKANTU_LIB_DIR, or else the repository's target/python, where
-bindings/python/link writes it. Orders, builds and scripts are bytes; a refusal is raised as Refused.
+The library is libjefkantu.so in the directory JEFKANTU_LIB_DIR, or else beside this file, or else in the repository's
+target/python, where bindings/python/link writes it. This folder works wherever it is copied, with its causes.txt.
+
+Orders, builds and scripts are bytes; a refusal is raised as Refused. A number is a whole number or an error: nothing
+is cut, rounded or parsed on its way in. Where it fits 32 bits the library itself judges it; where it does not, or is
+no whole number, the error names its row and its field. The bytes of a call are copied first and its output is the
+call's own, so nothing that a call writes can overlap what it reads.
 """
 
 import ctypes
+import operator
 import os
+from collections.abc import Mapping, Set
 from pathlib import Path
-from typing import Iterable, List, NamedTuple, Optional
+from typing import Any, Iterable, List, NamedTuple, Optional
 
 MOST_ORDER_BYTES = 291
 MOST_BUILD_BYTES = 195
@@ -17,6 +24,8 @@ _HERE = Path(__file__).resolve().parent
 _ORDER_NUMBERS = 130
 _NO_PLACE = 65535
 _RECORD_BYTES = 6
+_COLUMN_BITS = 32
+_RECORD_BITS = {"tick": 20, "task": 5, "duration": 20}  # then 3 spare
 
 
 class Cause(NamedTuple):
@@ -33,7 +42,7 @@ def _cause(line: str) -> Cause:
 
 
 def _causes() -> dict:
-    lines = (_HERE.parent / "causes.txt").read_text(encoding="utf-8").splitlines()
+    lines = (_HERE / "causes.txt").read_text(encoding="utf-8").splitlines()
     return {cause.number: cause for cause in (_cause(line) for line in lines if not line.startswith("#"))}
 
 
@@ -68,7 +77,7 @@ class Order(NamedTuple):
     """An order: M, and its tasks."""
 
     processors: int
-    tasks: List[Task]
+    tasks: Iterable[Task]
 
 
 class Partition(NamedTuple):
@@ -78,8 +87,8 @@ class Partition(NamedTuple):
     first: int
 
 
-class Seat(NamedTuple):
-    """What a build says of a task."""
+class Member(NamedTuple):
+    """What a build says of a task: the partition that it is a member of, its rank there, its worst response."""
 
     partition: int
     rank: int
@@ -91,7 +100,7 @@ class Build(NamedTuple):
 
     processors: int
     partitions: List[Partition]
-    tasks: List[Seat]
+    tasks: List[Member]
 
     def __str__(self) -> str:
         lines = [f"build {self.processors} {len(self.tasks)} {len(self.partitions)}"]
@@ -101,25 +110,27 @@ class Build(NamedTuple):
 
 
 class Release(NamedTuple):
-    """A record of a script: the tick of the release, the task, and how long the job runs."""
+    """A record of a script: the tick of the release, the task, and the job's length, 1 to C."""
 
     tick: int
     task: int
-    length: int
+    duration: int
 
 
 def read_order(order: bytes) -> Order:
     """Reads an order: 1 to 6 in turn, then task by task 7 to 10."""
     numbers = (ctypes.c_uint32 * _ORDER_NUMBERS)()
-    _count(_library.jefkantu_read_order(*_lent(order), numbers))
+    _count(_library.jefkantu_read_order(*_lent("order", order), numbers))
     processors, tasks, *table = numbers
     return Order(processors, [Task(*table[4 * i : 4 * i + 4]) for i in range(tasks)])
 
 
 def write_order(order: Order) -> bytes:
-    """Writes an order: 3, 4, then task by task 7 to 10."""
-    columns = [[task[field] for task in order.tasks] for field in range(len(Task._fields))]
-    return write_columns(order.processors, *columns)
+    """Writes an order: 3, 4, then task by task 7 to 10. A task has exactly its fields, or it is an error."""
+    processors, tasks = _fields("the order", order, Order)
+    rows = [_fields(f"task {i}", task, Task) for i, task in enumerate(_items("tasks", tasks))]
+    columns = [[row[field] for row in rows] for field in range(len(Task._fields))]
+    return write_columns(processors, *columns)
 
 
 def write_columns(
@@ -131,35 +142,37 @@ def write_columns(
     room: int = MOST_ORDER_BYTES,
 ) -> bytes:
     """The writer itself, given M and four columns: 13, 3, 4, then task by task 7 to 10; 12 if over room bytes."""
-    columns = [_numbers(column) for column in (widths, periods, deadlines, runs)]
+    processors = _number("processors", processors, _COLUMN_BITS)
+    columns = [_column(field, values) for field, values in zip(Task._fields, (widths, periods, deadlines, runs))]
     lent = [argument for column in columns for argument in (column, len(column))]
-    out = (ctypes.c_uint8 * room)()
-    count = _count(_library.jefkantu_write_order(*_numbers([processors]), *lent, out, room))
+    out = _output(ctypes.c_uint8, room)
+    count = _count(_library.jefkantu_write_order(processors, *lent, out, len(out)))
     return bytes(out[:count])
 
 
 def plan(order: bytes, room: int = MOST_BUILD_BYTES) -> bytes:
     """Plans an order and gives its build: the order's 1 to 10, then 11; 12 if over room bytes."""
-    out = (ctypes.c_uint8 * room)()
-    count = _count(_library.jefkantu_plan(*_lent(order), out, room))
+    out = _output(ctypes.c_uint8, room)
+    count = _count(_library.jefkantu_plan(*_lent("order", order), out, len(out)))
     return bytes(out[:count])
 
 
 def check(order: bytes, build: bytes) -> None:
     """Checks a build against an order: the order's 1 to 10, then 20 to 30."""
-    _count(_library.jefkantu_check(*_lent(order), *_lent(build)))
+    _count(_library.jefkantu_check(*_lent("order", order), *_lent("build", build)))
 
 
 def run(order: bytes, build: bytes, script: bytes, room: int = MOST_RECORDS) -> List[int]:
     """Runs a script and gives each record's finish tick: the check, 40, 46 if over room, then 41 to 45."""
-    out = (ctypes.c_uint32 * room)()
-    count = _count(_library.jefkantu_run(*_lent(order), *_lent(build), *_lent(script), out, room))
+    out = _output(ctypes.c_uint32, room)
+    lent = [*_lent("order", order), *_lent("build", build), *_lent("script", script)]
+    count = _count(_library.jefkantu_run(*lent, out, len(out)))
     return list(out[:count])
 
 
 def read_build(order: bytes, build: bytes) -> Build:
     """Checks a build against an order, and gives its fields where every rule holds."""
-    build = bytes(memoryview(build))
+    build = _bytes("build", build)
     check(order, build)
     header = int.from_bytes(build[:3], "big")
     end = 3 + 2 * (header % 128)
@@ -168,34 +181,80 @@ def read_build(order: bytes, build: bytes) -> Build:
     return Build(
         header >> 13 & 127,
         [Partition(it >> 9, it >> 3 & 63) for it in partitions],
-        [Seat(it >> 26, it >> 21 & 31, it >> 1 & 0xFFFFF) for it in tasks],
+        [Member(it >> 26, it >> 21 & 31, it >> 1 & 0xFFFFF) for it in tasks],
     )
 
 
 def write_script(releases: Iterable[Release]) -> bytes:
-    """Writes a script; OverflowError if a number is more than its field holds. The run says whether it is legal."""
-    return b"".join(_record(*release) for release in releases)
+    """Writes a script; an error names the record and the field that cannot hold its number. The run says whether it is
+    legal."""
+    return b"".join(_record(f"record {i}", release) for i, release in enumerate(_items("releases", releases)))
 
 
-def _record(tick: int, task: int, length: int) -> bytes:
+def _record(where: str, release: Release) -> bytes:
     """tick 20, task 5, length 20, spare 3"""
-    if not (0 <= tick < 1 << 20 and 0 <= task < 1 << 5 and 0 <= length < 1 << 20):
-        raise OverflowError(f"a record cannot hold {(tick, task, length)}")
-    return (tick << 28 | task << 23 | length << 3).to_bytes(_RECORD_BYTES, "big")
+    fields = zip(Release._fields, _fields(where, release, Release))
+    tick, task, duration = (_number(f"{where}, {name}", value, _RECORD_BITS[name]) for name, value in fields)
+    return (tick << 28 | task << 23 | duration << 3).to_bytes(_RECORD_BYTES, "big")
 
 
-def _numbers(values: Iterable[int]) -> ctypes.Array:
-    """A column for the library; ctypes would cut a number of more than 32 bits, so that is an error here."""
-    values = list(values)
-    for value in values:
-        if not 0 <= value < 1 << 32:
-            raise OverflowError(f"{value} is not a number of 32 bits")
-    return (ctypes.c_uint32 * len(values))(*values)
+def _number(where: str, value: Any, bits: int) -> int:
+    """A whole number as it is; ctypes would cut one of too many bits, so that is an error here."""
+    try:
+        number = operator.index(value)
+    except TypeError:
+        raise TypeError(f"{where}: {value!r} is not a whole number") from None
+    if not 0 <= number < 1 << bits:
+        told = number if number.bit_length() <= 64 else f"a number of {number.bit_length()} bits"
+        raise OverflowError(f"{where}: {told} is not from 0 to {(1 << bits) - 1}")
+    return number
 
 
-def _lent(data: bytes) -> tuple:
+def _items(where: str, values: Iterable) -> list:
+    """The items of a list, a generator or the like. Text and bytes are none: their items are characters."""
+    if not isinstance(values, (str, bytes, bytearray, Set, Mapping)):
+        try:
+            return list(iter(values))
+        except TypeError:
+            if hasattr(values, "__iter__"):
+                raise
+    raise TypeError(f"{where}: {values!r} is no list")
+
+
+def _fields(where: str, values: Iterable, kind: type) -> list:
+    """The values of a row, exactly one for each field."""
+    items = _items(where, values)
+    if len(items) != len(kind._fields):
+        raise TypeError(f"{where}: {len(items)} values for {', '.join(kind._fields)}")
+    return items
+
+
+def _column(field: str, values: Iterable[int]) -> ctypes.Array:
+    """A column for the library."""
+    items = _items(field, values)
+    numbers = [_number(f"task {i}, {field}", value, _COLUMN_BITS) for i, value in enumerate(items)]
+    return (ctypes.c_uint32 * len(numbers))(*numbers)
+
+
+def _output(kind: type, room: int) -> ctypes.Array:
+    """A new output with room for so many items."""
+    return (kind * _number("room", room, _COLUMN_BITS))()
+
+
+def _bytes(where: str, data: bytes) -> bytes:
+    """A copy, which nobody else can change during a call; items of more than a byte are no bytes."""
+    try:
+        view = memoryview(data)
+    except TypeError:
+        raise TypeError(f"{where}: {type(data).__name__} is no bytes") from None
+    if view.itemsize != 1:
+        raise TypeError(f"{where}: items of {view.itemsize} bytes are no bytes")
+    return view.tobytes()
+
+
+def _lent(where: str, data: bytes) -> tuple:
     """The arguments for bytes: their pointer and length."""
-    data = bytes(memoryview(data))
+    data = _bytes(where, data)
     return data, len(data)
 
 
@@ -207,10 +266,20 @@ def _count(word: int) -> int:
     return count
 
 
+def _find() -> Path:
+    """Where libjefkantu.so is."""
+    named = os.environ.get("JEFKANTU_LIB_DIR")
+    places = [Path(named)] if named else [_HERE, _HERE.parent.parent / "target" / "python"]
+    files = [place.resolve() / "libjefkantu.so" for place in places]
+    for file in files:
+        if file.is_file():
+            return file
+    raise ImportError(f"there is no {' nor '.join(map(str, files))}: bindings/python/link writes it")
+
+
 def _load() -> ctypes.CDLL:
     """The library, with the types that include/jefkantu.h declares."""
-    directory = Path(os.environ.get("JEFKANTU_LIB_DIR", _HERE.parent.parent / "target" / "python"))
-    library = ctypes.CDLL(str(directory.resolve() / "libjefkantu.so"))
+    library = ctypes.CDLL(str(_find()))
     size, data = ctypes.c_size_t, ctypes.c_char_p
     column, out = ctypes.POINTER(ctypes.c_uint32), ctypes.POINTER(ctypes.c_uint8)
     numbers = ctypes.POINTER(ctypes.c_uint32 * _ORDER_NUMBERS)

@@ -1,14 +1,20 @@
-"""The sample order of document 01, each line of bindings/refusals.txt, and the README's Python, over libjefkantu.so."""
+"""The sample order of document 01, each line of bindings/refusals.txt, numbers that do not fit, and the README's Python."""
 
+import array
 import contextlib
 import io
+import os
 import pickle
 import re
+import shutil
+import subprocess
+import sys
+import tempfile
 import unittest
 from pathlib import Path
 
 import jefkantu
-from jefkantu import Build, Order, Partition, Refused, Release, Seat, Task
+from jefkantu import Build, Member, Order, Partition, Refused, Release, Task
 
 ROOT = Path(__file__).resolve().parent.parent.parent
 ORDER = bytes.fromhex("108180 040001400014000080 020001C0001A000080 020001C0001A000080")
@@ -75,8 +81,8 @@ class Sample(unittest.TestCase):
         build = jefkantu.plan(order)
         self.assertEqual(len(build), jefkantu.MOST_BUILD_BYTES)
         partitions = [Partition(2, 2 * i) for i in range(32)]
-        seats = [Seat(i, 0, 10) for i in range(32)]
-        self.assertEqual(jefkantu.read_build(order, build), Build(64, partitions, seats))
+        members = [Member(i, 0, 10) for i in range(32)]
+        self.assertEqual(jefkantu.read_build(order, build), Build(64, partitions, members))
 
     def test_build_reads_as_the_printer_prints_it(self):
         self.assertEqual(str(jefkantu.read_build(ORDER, BUILD)), text("crates/printer/stdout"))
@@ -122,18 +128,127 @@ class Refusals(unittest.TestCase):
             jefkantu.plan(b"")
         self.assertEqual(str(caught.exception), "refused 1: order under 3 bytes")
 
-    def test_numbers_are_never_cut(self):
-        for processors, width in [(2**32 + 4, 1), (-1, 1), (4, 2**32 + 1), (4, -1)]:
-            with self.assertRaises(OverflowError):
-                jefkantu.write_order(Order(processors, [Task(width, 10, 10, 10)]))
-        for over in [Release(1 << 20, 0, 1), Release(0, 32, 1), Release(0, 0, 1 << 20), Release(-1, 0, 1)]:
-            with self.assertRaises(OverflowError):
-                jefkantu.write_script([over])
 
+# 2^32 + 75, -1, 7.5 and "7,5", and what else is no number of 32 bits; each with its error.
+UNFIT = [
+    (2**32 + 75, OverflowError),
+    (-1, OverflowError),
+    (7.5, TypeError),
+    ("7,5", TypeError),
+    ("7", TypeError),
+    (7.0, TypeError),
+    (None, TypeError),
+    (b"7", TypeError),
+    ([7], TypeError),
+    (10**5000, OverflowError),
+]
+
+
+class Whole:
+    """A whole number of another kind, as numpy's are."""
+
+    def __init__(self, number):
+        self.number = number
+
+    def __index__(self):
+        return self.number
+
+
+class Numbers(unittest.TestCase):
+    """No number changes on its way in: it comes through whole, or an error names its row and its field."""
+
+    def refused(self, error, where, call):
+        with self.assertRaises(error) as caught:
+            call()
+        self.assertTrue(str(caught.exception).startswith(where + ": "), str(caught.exception))
+
+    def test_every_field_of_a_task(self):
+        for row in range(2):
+            for field in Task._fields:
+                for value, error in UNFIT:
+                    tasks = [Task(1, 10, 10, 4), Task(1, 10, 10, 4)]
+                    tasks[row] = tasks[row]._replace(**{field: value})
+                    with self.subTest(row=row, field=field, value=value):
+                        self.refused(error, f"task {row}, {field}", lambda: jefkantu.write_order(Order(4, tasks)))
+
+    def test_processors(self):
+        for value, error in UNFIT:
+            self.refused(error, "processors", lambda: jefkantu.write_order(Order(value, [Task(1, 10, 10, 4)])))
+
+    def test_every_column(self):
+        for at, field in enumerate(Task._fields):
+            for value, error in UNFIT:
+                columns = [[1, 1], [10, 10], [10, 10], [4, 4]]
+                columns[at] = [1, value]
+                with self.subTest(field=field, value=value):
+                    self.refused(error, f"task 1, {field}", lambda: jefkantu.write_columns(4, *columns))
+            columns[at] = "1234"
+            self.refused(TypeError, field, lambda: jefkantu.write_columns(4, *columns))
+
+    def test_every_field_of_a_record(self):
+        over = {"tick": 1 << 20, "task": 32, "duration": 1 << 20}
+        self.assertEqual(set(over), set(Release._fields))
+        for field in Release._fields:
+            for value, error in [*UNFIT, (over[field], OverflowError)]:
+                releases = [Release(0, 1, 4), Release(20, 0, 4)._replace(**{field: value})]
+                with self.subTest(field=field, value=value):
+                    self.refused(error, f"record 1, {field}", lambda: jefkantu.write_script(releases))
+
+    def test_room(self):
+        for value, error in UNFIT:
+            self.refused(error, "room", lambda: jefkantu.plan(ORDER, value))
+            self.refused(error, "room", lambda: jefkantu.run(ORDER, BUILD, SCRIPT, value))
+            self.refused(error, "room", lambda: jefkantu.write_columns(4, [1], [9], [9], [9], value))
+
+    def test_a_row_has_exactly_its_fields(self):
+        for row in [(1, 100, 100, 4, 2500, 10), (1, 10), (), 7, None, "1234", {1, 2, 3, 4}, b"\1\2\2\1"]:
+            with self.subTest(row=row):
+                self.refused(TypeError, "task 1", lambda: jefkantu.write_order(Order(4, [(1, 9, 9, 9), row])))
+                self.refused(TypeError, "record 1", lambda: jefkantu.write_script([(0, 0, 1), row]))
+        self.refused(TypeError, "tasks", lambda: jefkantu.write_order(Order(4, 7)))
+        self.refused(TypeError, "the order", lambda: jefkantu.write_order((4, [(1, 9, 9, 9)], 1)))
+
+    def test_numbers_that_fit_are_judged_by_the_library(self):
+        for at, number in enumerate([7, 8, 9, 10]):
+            row = [1, 10, 10, 10]
+            row[at] = 2**32 - 1
+            with self.assertRaises(Refused) as caught:
+                jefkantu.write_order(Order(4, [row]))
+            self.assertEqual((caught.exception.number, caught.exception.place), (number, 0))
+
+    def test_whole_numbers_of_other_kinds_and_generators(self):
+        rows = [[Whole(number) for number in task] for task in SAMPLE.tasks]
+        self.assertEqual(jefkantu.write_order(Order(Whole(4), rows)), ORDER)
+        self.assertEqual(jefkantu.write_order(Order(4, ((number for number in row) for row in rows))), ORDER)
+        columns = [array.array("L", column) for column in zip(*SAMPLE.tasks)]
+        self.assertEqual(jefkantu.write_columns(4, *columns), ORDER)
+        self.assertEqual(jefkantu.write_columns(4, *map(iter, columns)), ORDER)
+        self.assertEqual(jefkantu.write_script(map(Release._make, [(0, 1, 4), (1, 0, 4), (1, 2, 3)])), SCRIPT)
+
+    def test_an_error_of_a_generator_is_its_own(self):
+        def tasks():
+            yield Task(1, 10, 10, 4)
+            raise TypeError("of the caller")
+
+        with self.assertRaisesRegex(TypeError, "^of the caller$"):
+            jefkantu.write_order(Order(4, tasks()))
+
+
+class Buffers(unittest.TestCase):
     def test_what_is_no_bytes_is_an_error(self):
-        for other in ["108180", 30, None]:
-            with self.assertRaises(TypeError):
+        for other in ["108180", 30, None, list(ORDER), array.array("H", ORDER)]:
+            with self.subTest(other=other), self.assertRaisesRegex(TypeError, "^order: "):
                 jefkantu.plan(other)
+            with self.subTest(other=other), self.assertRaisesRegex(TypeError, "^script: "):
+                jefkantu.run(ORDER, BUILD, other)
+
+    def test_one_buffer_may_hold_them_all(self):
+        whole = bytearray(ORDER + BUILD + SCRIPT)
+        view = memoryview(whole)
+        order, build, script = view[:30], view[30:49], view[49:]
+        self.assertEqual(jefkantu.run(order, build, script), [4, 8, 4])
+        self.assertEqual(jefkantu.run(view[::-1][::-1][:30], build, script), [4, 8, 4])
+        self.assertEqual(whole, ORDER + BUILD + SCRIPT)
 
 
 class Repository(unittest.TestCase):
@@ -141,6 +256,29 @@ class Repository(unittest.TestCase):
         header = dict(re.findall(r"#define JEFKANTU_(\w+) (\d+)", text("include/jefkantu.h")))
         for name in ["MOST_ORDER_BYTES", "MOST_BUILD_BYTES", "MOST_RECORDS"]:
             self.assertEqual(getattr(jefkantu, name), int(header[name]))
+
+    def test_the_formats_page_has_every_cause_and_the_sample(self):
+        page = text("docs/FORMATS.md")
+        rows = re.findall(r"^\| (\d+) \| (.*?) \| (.*?) \| .* \|$", page, re.MULTILINE)
+        causes = [(str(it.number), it.words, it.place or "none") for it in jefkantu.CAUSES.values()]
+        self.assertEqual(rows, causes)
+        lines = re.findall(r"^([0-9A-F]{2})  ([01|]+)  ", page, re.MULTILINE)
+        for byte, bits in lines:
+            self.assertEqual(int(byte, 16), int(bits.replace("|", ""), 2))
+        self.assertEqual(bytes.fromhex("".join(byte for byte, _ in lines)), ORDER + BUILD + SCRIPT)
+
+    def test_a_copied_folder_works(self):
+        here = Path(__file__).resolve().parent
+        with tempfile.TemporaryDirectory() as directory:
+            copy = Path(directory) / "copy"
+            shutil.copytree(here, copy, ignore=shutil.ignore_patterns("__pycache__"))
+            environment = {name: value for name, value in os.environ.items() if name != "JEFKANTU_LIB_DIR"}
+            command = [sys.executable, "-B", str(copy / "example.py")]
+            alone = subprocess.run(command, env=environment, cwd=directory, capture_output=True, text=True)
+            self.assertIn("ImportError: there is no ", alone.stderr)
+            shutil.copy(jefkantu._find(), copy)
+            beside = subprocess.run(command, env=environment, cwd=directory, capture_output=True, text=True)
+            self.assertEqual((beside.stdout, beside.stderr), (text("crates/printer/stdout"), ""))
 
     def test_the_readme_runs(self):
         blocks = re.findall(r"^```python\n(.*?)^```$", text("README.md"), re.DOTALL | re.MULTILINE)

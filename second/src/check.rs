@@ -2,25 +2,20 @@
 
 use crate::answer::{Cause, Refusal};
 use crate::build::{Build, Partition, Seat};
-use crate::count::Count;
 use crate::order::Order;
 
 /// The order and the build, if every rule holds: the order's 1 to 10, then 20 to 30 in turn.
-pub fn check(
-    order: &[u8],
-    build: &[u8],
-    count: &mut impl Count,
-) -> Result<(Order, Build), Refusal> {
+pub fn check(order: &[u8], build: &[u8]) -> Result<(Order, Build), Refusal> {
     let order = Order::read(order)?;
     let build = read(build, &order)?;
     partitions_apart(&build)?;
     seats_wide_enough(&order, &build)?;
-    ranks_and_responses(&order, &build, count)?;
+    ranks_and_responses(&order, &build)?;
     Ok((order, build))
 }
 
 /// Reads a build of this order: 20 to 23.
-fn read(bytes: &[u8], order: &Order) -> Result<Build, Refusal> {
+pub fn read(bytes: &[u8], order: &Order) -> Result<Build, Refusal> {
     let header = bytes.get(..Build::HEADER.bytes());
     let header = header.ok_or(Cause::BuildShort.nowhere())?;
     let [version, processors, n, p] = Build::HEADER.read(header);
@@ -77,18 +72,14 @@ fn seats_wide_enough(order: &Order, build: &Build) -> Result<(), Refusal> {
 }
 
 /// 26 for all tasks, then task by task 27 to 30.
-fn ranks_and_responses(
-    order: &Order,
-    build: &Build,
-    count: &mut impl Count,
-) -> Result<(), Refusal> {
+fn ranks_and_responses(order: &Order, build: &Build) -> Result<(), Refusal> {
     let rosters = build.rosters(order);
     let roster = |seat: &Seat| &rosters[seat.partition as usize];
     for (i, seat) in build.seats.iter().enumerate() {
         Cause::Rank.unless_at(i, roster(seat).rank(i) == Some(seat.rank as usize))?;
     }
     for (i, seat) in build.seats.iter().enumerate() {
-        let response = roster(seat).response(seat.rank as usize, count);
+        let response = roster(seat).response(seat.rank as usize);
         let response = response.map_err(|cause| cause.at(i))?;
         Cause::Response.unless_at(i, response == seat.response)?;
     }

@@ -2,7 +2,6 @@
 
 use crate::answer::{Cause, Refusal};
 use crate::build::{Build, Partition, Seat};
-use crate::count::Count;
 use crate::order::Order;
 use crate::response::Roster;
 use std::cmp::Reverse;
@@ -14,10 +13,10 @@ struct Open {
 }
 
 /// The build of an order, or 11 at the task that finds no place.
-pub fn first_fit(order: &Order, count: &mut impl Count) -> Result<Build, Refusal> {
+pub fn first_fit(order: &Order) -> Result<Build, Refusal> {
     let mut open: Vec<Open> = Vec::new();
     for i in by_volume(order) {
-        if !join(&mut open, order, i, count) {
+        if !join(&mut open, order, i) {
             let task = order.tasks[i];
             let partition = Partition {
                 volume: task.m,
@@ -28,7 +27,7 @@ pub fn first_fit(order: &Order, count: &mut impl Count) -> Result<Build, Refusal
             open.push(Open { partition, roster: Roster::default().with(i, task) });
         }
     }
-    Ok(record(order, &open, count))
+    Ok(record(order, &open))
 }
 
 /// The tasks by larger m, then smaller T, then lower number.
@@ -41,10 +40,10 @@ fn by_volume(order: &Order) -> Vec<usize> {
 /// Puts a task in the lowest-numbered partition where it and all members there pass.
 ///
 /// Wide tasks come first, so every open partition is wide enough.
-fn join(open: &mut [Open], order: &Order, i: usize, count: &mut impl Count) -> bool {
+fn join(open: &mut [Open], order: &Order, i: usize) -> bool {
     open.iter_mut().any(|part| {
         let roster = part.roster.with(i, order.tasks[i]);
-        let passes = roster.all_pass(i, count);
+        let passes = roster.all_pass();
         if passes {
             part.roster = roster;
         }
@@ -53,10 +52,10 @@ fn join(open: &mut [Open], order: &Order, i: usize, count: &mut impl Count) -> b
 }
 
 /// The build with the final ranks and worst responses.
-fn record(order: &Order, open: &[Open], count: &mut impl Count) -> Build {
+fn record(order: &Order, open: &[Open]) -> Build {
     let mut seats = vec![Seat::default(); order.tasks.len()];
     for (partition, Open { roster, .. }) in open.iter().enumerate() {
-        let responses = roster.responses(count).expect("every member passed");
+        let responses = roster.responses().expect("every member passed");
         for (rank, (&i, response)) in roster.numbers.iter().zip(responses).enumerate() {
             seats[i] = Seat { partition: partition as u32, rank: rank as u32, response };
         }

@@ -1,6 +1,8 @@
 //! The C names of libjefkantu.a.
 
+use crate::answer::Answer;
 use crate::order::Order;
+use crate::program::Program;
 
 /// Declares C names where their feature is on; elsewhere they stand for a name not linked.
 macro_rules! surface {
@@ -40,3 +42,38 @@ surface! {
     link(name = "jefkantu", kind = "static")
 )]
 extern "C" {}
+
+/// The library as a program, called as it is.
+pub struct Library;
+
+impl Program for Library {
+    fn read_order(&self, order: &[u8], numbers: &mut [u32; Order::NUMBERS]) -> Answer {
+        Answer::unpack(unsafe { jefkantu_read_order(order.as_ptr(), order.len(), numbers) })
+    }
+
+    fn write_order(&self, processors: u32, [m, t, d, c]: [&[u32]; 4], out: &mut [u8]) -> Answer {
+        let lent = |column: &[u32]| (column.as_ptr(), column.len());
+        let (m, t, d, c) = (lent(m), lent(t), lent(d), lent(c));
+        let (to, room) = (out.as_mut_ptr(), out.len());
+        Answer::unpack(unsafe {
+            jefkantu_write_order(processors, m.0, m.1, t.0, t.1, d.0, d.1, c.0, c.1, to, room)
+        })
+    }
+
+    fn plan(&self, order: &[u8], out: &mut [u8]) -> Answer {
+        let (to, room) = (out.as_mut_ptr(), out.len());
+        Answer::unpack(unsafe { jefkantu_plan(order.as_ptr(), order.len(), to, room) })
+    }
+
+    fn check(&self, order: &[u8], build: &[u8]) -> Answer {
+        let (from, length) = (build.as_ptr(), build.len());
+        Answer::unpack(unsafe { jefkantu_check(order.as_ptr(), order.len(), from, length) })
+    }
+
+    fn run(&self, order: &[u8], build: &[u8], script: &[u8], out: &mut [u32]) -> Answer {
+        let lent = |bytes: &[u8]| (bytes.as_ptr(), bytes.len());
+        let (o, b, s) = (lent(order), lent(build), lent(script));
+        let (to, room) = (out.as_mut_ptr(), out.len());
+        Answer::unpack(unsafe { jefkantu_run(o.0, o.1, b.0, b.1, s.0, s.1, to, room) })
+    }
+}

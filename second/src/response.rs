@@ -1,100 +1,72 @@
-//! The response test of one partition.
+//! The response test of one partition, as the definition says it.
 
 use crate::answer::Cause;
-use crate::count::Count;
 use crate::order::Task;
-use crate::search::{smallest, Load, WHOLE};
 use std::ops::RangeInclusive;
 
 /// H, the horizon of the test in ticks.
-pub const HORIZON: u64 = 1_000_000;
+pub const HORIZON: u32 = 1_000_000;
 
-/// One member among the members of its partition.
-pub struct Member {
-    t: u64,
-    d: u64,
-    c: u64,
-    blocking: u64,
-    /// The higher members, then this one.
-    loads: Vec<Load>,
+/// The smallest tick of a range with demand(tick) ≤ tick, where demand never falls.
+///
+/// Where demand(t) > t, no tick before demand(t) can do either, so the search goes on there.
+pub fn smallest(ticks: RangeInclusive<u32>, demand: impl Fn(u32) -> u32) -> Option<u32> {
+    let mut t = *ticks.start();
+    while t <= *ticks.end() {
+        match demand(t) {
+            asked if asked <= t => return Some(t),
+            asked => t = asked,
+        }
+    }
+    None
 }
 
-impl Member {
+/// One member among the members of its partition. As C ≤ T, all its sums stay under 2^27.
+pub struct Member<'a> {
+    task: &'a Task,
+    higher: &'a [Task],
+    and_higher: &'a [Task],
+    blocking: u32,
+}
+
+impl<'a> Member<'a> {
     /// The member of this rank; members come by falling priority.
-    pub fn new(members: &[Task], rank: usize) -> Self {
-        let Task { t, d, c, .. } = members[rank];
+    pub fn new(members: &'a [Task], rank: usize) -> Self {
         let lower = members[rank + 1..].iter();
         Member {
-            t: t.into(),
-            d: d.into(),
-            c: c.into(),
-            blocking: lower.map(|task| u64::from(task.c) - 1).max().unwrap_or(0),
-            loads: members[..=rank].iter().map(Load::from).collect(),
+            task: &members[rank],
+            higher: &members[..rank],
+            and_higher: &members[..=rank],
+            blocking: lower.map(|task| task.c - 1).max().unwrap_or(0),
         }
     }
 
-    fn higher(&self) -> &[Load] {
-        &self.loads[..self.loads.len() - 1]
+    /// Window L: the smallest t from 1 to H with B + Σ ceil(t/T)·C ≤ t over this and higher members.
+    pub fn window(&self) -> Option<u32> {
+        let work = |t: u32| self.and_higher.iter().map(|k| t.div_ceil(k.t) * k.c).sum::<u32>();
+        smallest(1..=HORIZON, |t| self.blocking + work(t))
     }
 
-    /// Whether utilisation alone shows that no window closes: over 1, or 1 with some blocking.
-    fn overfull(&self) -> bool {
-        let share: u64 = self.loads.iter().map(|load| load.share).sum();
-        share > WHOLE || share == WHOLE && self.blocking > 0
-    }
-
-    /// Window L, not before `least`: the smallest t with B + Σ ceil(t/T)·C ≤ t over this and higher
-    /// members.
-    pub fn window(&self, least: u64, count: &mut impl Count) -> Option<u64> {
-        smallest(&self.loads, self.blocking, least..=HORIZON, count)
-    }
-
-    /// Start w_q in a range: the smallest w with B + q·C + Σ (floor(w/T)+1)·C ≤ w over higher members.
-    ///
-    /// As floor(w/T) + 1 = ceil((w+1)/T), that is a search for w + 1 with one more asked.
-    pub fn start(&self, q: u64, ticks: RangeInclusive<u64>, count: &mut impl Count) -> Option<u64> {
-        let base = self.blocking + q * self.c + 1;
-        smallest(self.higher(), base, ticks.start() + 1..=ticks.end() + 1, count).map(|t| t - 1)
+    /// Start w_q, known not to lie before `least`: the smallest w to H with
+    /// B + q·C + Σ (floor(w/T)+1)·C ≤ w over higher members.
+    pub fn start(&self, q: u32, least: u32) -> Option<u32> {
+        let work = |w: u32| self.higher.iter().map(|k| (w / k.t + 1) * k.c).sum::<u32>();
+        smallest(least..=HORIZON, |w| self.blocking + q * self.task.c + work(w))
     }
 
     /// The worst response if the member passes, else the cause why not.
-    ///
-    /// No window closes before its first job ends, and none without a first start; within a window every job
-    /// starts, so a job that has not started in time is late.
-    pub fn worst_response(&self, count: &mut impl Count) -> Result<u32, Cause> {
-        if self.overfull() {
-            return Err(Cause::Window);
+    pub fn worst_response(&self) -> Result<u32, Cause> {
+        let &Task { t, d, c, .. } = self.task;
+        let window = self.window().ok_or(Cause::Window)?;
+        let (mut worst, mut start) = (0, 0);
+        for q in (0..).take_while(|q| q * t < window) {
+            start = self.start(q, start).ok_or(Cause::Start)?;
+            worst = worst.max(start + c - q * t);
         }
-        let first = self.start(0, 0..=HORIZON, count).ok_or(Cause::Window)?;
-        let window = self.window(first + self.c, count).ok_or(Cause::Window)?;
-        if first + self.c > self.d {
+        if worst > d {
             return Err(Cause::Late);
         }
-        self.worst_in(window, first, count).ok_or(Cause::Late)
-    }
-
-    /// Whether the member passes: its first job is held against the deadline before the window.
-    pub fn passes(&self, count: &mut impl Count) -> bool {
-        if self.overfull() {
-            return false;
-        }
-        let Some(first) = self.start(0, 0..=self.d - self.c, count) else {
-            return false;
-        };
-        let window = self.window(first + self.c, count);
-        window.is_some_and(|window| self.worst_in(window, first, count).is_some())
-    }
-
-    /// The worst response of the jobs of a window, the first of which starts in time; nothing if one is late.
-    fn worst_in(&self, window: u64, first: u64, count: &mut impl Count) -> Option<u32> {
-        let (mut worst, mut least) = (first + self.c, first + self.c);
-        for release in (1..).map(|q| q * self.t).take_while(|&release| release < window) {
-            let limit = release + self.d - self.c;
-            let start = self.start(release / self.t, least..=limit, count)?;
-            worst = worst.max(start + self.c - release);
-            least = start + self.c; // the next start is C later at the soonest
-        }
-        Some(worst as u32)
+        Ok(worst)
     }
 }
 
@@ -127,20 +99,43 @@ impl Roster {
     }
 
     /// The worst response of the member of this rank.
-    pub fn response(&self, rank: usize, count: &mut impl Count) -> Result<u32, Cause> {
-        Member::new(&self.tasks, rank).worst_response(count)
+    pub fn response(&self, rank: usize) -> Result<u32, Cause> {
+        Member::new(&self.tasks, rank).worst_response()
     }
 
-    /// Whether all pass, the newcomer first: it fails the most often.
-    pub fn all_pass(&self, newcomer: usize, count: &mut impl Count) -> bool {
-        let others = (0..self.tasks.len()).filter(|&rank| self.numbers[rank] != newcomer);
-        let mut ranks = self.rank(newcomer).into_iter().chain(others);
-        ranks.all(|rank| Member::new(&self.tasks, rank).passes(count))
+    /// Whether all pass.
+    pub fn all_pass(&self) -> bool {
+        (0..self.tasks.len()).all(|rank| self.response(rank).is_ok())
     }
 
     /// All worst responses by rank, if every member passes.
-    pub fn responses(&self, count: &mut impl Count) -> Result<Vec<u32>, Cause> {
-        let ranks = 0..self.tasks.len();
-        ranks.map(|rank| self.response(rank, count)).collect()
+    pub fn responses(&self) -> Result<Vec<u32>, Cause> {
+        (0..self.tasks.len()).map(|rank| self.response(rank)).collect()
+    }
+}
+
+#[cfg(test)]
+mod tests {
+    use super::*;
+    use crate::generate::random::Random;
+
+    /// The search finds what trying every tick finds, at both ends of the range too.
+    #[test]
+    fn jumps_miss_nothing() {
+        let mut random = Random::new(1);
+        for _ in 0..20_000 {
+            let mut task = || {
+                let t = random.between(1, 60);
+                (t, random.between(1, t))
+            };
+            let tasks = [task(), task(), task()];
+            let tasks = &tasks[..random.between(1, 3) as usize];
+            let base = random.below(40);
+            let demand = |t: u32| base + tasks.iter().map(|k| t.div_ceil(k.0) * k.1).sum::<u32>();
+            let least = random.between(1, 3);
+            let range = least..=least + random.below(400);
+            let literal = range.clone().find(|&t| demand(t) <= t);
+            assert_eq!(smallest(range, demand), literal, "{base} {tasks:?}");
+        }
     }
 }

@@ -74,36 +74,36 @@ fn p2_fewer_processors() {
 
 #[test]
 fn p3_alone() {
-    assert_eq!(partition(&[(10, 10, 10)]).responses(&mut ()), Ok(vec![10]));
+    assert_eq!(partition(&[(10, 10, 10)]).responses(), Ok(vec![10]));
 }
 
 #[test]
 fn p4_release_at_the_start() {
     let roster = partition(&[(4, 4, 2), (100, 50, 2), (100, 100, 1)]);
-    assert_eq!(roster.responses(&mut ()), Ok(vec![3, 4, 7]));
+    assert_eq!(roster.responses(), Ok(vec![3, 4, 7]));
     let last = Member::new(&roster.tasks, 2);
-    assert_eq!(last.start(0, 0..=100, &mut ()), Some(6));
+    assert_eq!(last.start(0, 0), Some(6));
 }
 
 #[test]
 fn p5_p6_second_job_of_a_window() {
     let roster = partition(&[(10, 10, 4), (14, 13, 4), (14, 13, 4)]);
     let third = Member::new(&roster.tasks, 2);
-    assert_eq!(third.window(1, &mut ()), Some(28));
-    let response = |q| third.start(q, 0..=100, &mut ()).map(|start| start + 4 - 14 * q);
+    assert_eq!(third.window(), Some(28));
+    let response = |q| third.start(q, 0).map(|start| start + 4 - 14 * q);
     assert_eq!([0, 1].map(response), [Some(12), Some(14)]);
-    assert_eq!(third.worst_response(&mut ()), Err(Cause::Late));
+    assert_eq!(third.worst_response(), Err(Cause::Late));
     let roster = partition(&[(10, 10, 4), (14, 13, 4), (14, 14, 4)]);
-    assert_eq!(roster.response(2, &mut ()), Ok(14));
+    assert_eq!(roster.response(2), Ok(14));
 }
 
 #[test]
 fn p7_p8_full_use() {
     let roster = partition(&[(10, 10, 6), (10, 10, 4)]);
-    assert_eq!(roster.responses(&mut ()), Ok(vec![9, 10]));
+    assert_eq!(roster.responses(), Ok(vec![9, 10]));
     let roster = partition(&[(10, 10, 6), (10, 10, 5)]);
-    assert_eq!(roster.response(0, &mut ()), Ok(10));
-    assert_eq!(roster.response(1, &mut ()), Err(Cause::Window));
+    assert_eq!(roster.response(0), Ok(10));
+    assert_eq!(roster.response(1), Err(Cause::Window));
 }
 
 #[test]
@@ -133,17 +133,8 @@ fn p10_p11_p12_edges() {
 fn horizon() {
     let long = 1_000_000;
     let roster = partition(&[(long, long, 600_000), (long, long, 400_000)]);
-    assert_eq!(roster.responses(&mut ()), Ok(vec![999_999, long]));
-    let first = |blocker| partition(&[(101, 101, 100), (long, long, blocker)]).response(0, &mut ());
+    assert_eq!(roster.responses(), Ok(vec![999_999, long]));
+    let first = |blocker| partition(&[(101, 101, 100), (long, long, blocker)]).response(0);
     assert_eq!(first(9_901), Err(Cause::Late)); // window 101 · 9,900
     assert_eq!(first(9_902), Err(Cause::Window)); // 101 · 9,901 is H + 1
-}
-
-/// For the window of P5's third, 1, 12, 16, 24 and 28 are tried, each over three terms.
-#[test]
-fn terms_are_counted() {
-    let roster = partition(&[(10, 10, 4), (14, 13, 4), (14, 13, 4)]);
-    let mut terms = 0;
-    Member::new(&roster.tasks, 2).window(1, &mut terms);
-    assert_eq!(terms, 15);
 }

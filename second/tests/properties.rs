@@ -73,20 +73,6 @@ fn partitions_are_apart() {
     }
 }
 
-/// Counting changes no answer.
-#[test]
-fn counting_changes_nothing() {
-    for (_, order, build) in planned(6, 2_000) {
-        let order = order.bytes();
-        let (mut plain, mut counted) = ([0; 195], [0; 195]);
-        let answer = second::plan(&order, &mut plain);
-        assert_eq!(second::plan_counting(&order, &mut counted).0, answer);
-        assert_eq!(plain, counted);
-        let answer = second::check(&order, &build);
-        assert_eq!(second::check_counting(&order, &build).0, answer);
-    }
-}
-
 /// The random cases bring about every number but 28.
 #[test]
 fn every_number_is_drawn() {

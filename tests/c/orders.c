@@ -73,7 +73,7 @@ static size_t pack(const struct order *o, uint8_t *bytes) {
 }
 
 static int untouched(const void *memory, size_t size) {
-    const uint8_t *bytes = memory;
+    const uint8_t *bytes = (const uint8_t *)memory;
     for (size_t i = 0; i < size; i++) {
         if (bytes[i] != UNTOUCHED) return 0;
     }
@@ -124,7 +124,10 @@ struct columns {
 };
 
 static struct columns columns_of(const struct order *o) {
-    struct columns c = {.lengths = {o->tasks, o->tasks, o->tasks, o->tasks}};
+    struct columns c;
+    for (size_t i = 0; i < 4; i++) {
+        c.lengths[i] = o->tasks;
+    }
     for (size_t i = 0; i < MOST_TASKS; i++) {
         c.widths[i] = o->task[i].width;
         c.periods[i] = o->task[i].period;
@@ -184,8 +187,11 @@ static void sample_order(void) {
 }
 
 static struct order largest(void) {
-    struct order o = {1, 64, 32, 0, {{0}}};
-    for (size_t i = 0; i < MOST_TASKS; i++) o.task[i] = (struct task){64, 1000000, 1000000, 1000000, 0};
+    static const struct task WIDEST = {64, 1000000, 1000000, 1000000, 0};
+    struct order o = SAMPLE;
+    o.processors = 64;
+    o.tasks = 32;
+    for (size_t i = 0; i < MOST_TASKS; i++) o.task[i] = WIDEST;
     return o;
 }
 
@@ -245,16 +251,16 @@ static void reader_spares(void) {
 }
 
 static void task_ranges(void) {
-    static const struct { uint32_t width, period, deadline, run, number; } CASES[] = {
-        {0, 10, 10, 4, 7}, {5, 10, 10, 4, 7}, {127, 10, 10, 4, 7}, {0, 0, 0, 0, 7},
-        {4, 0, 0, 0, 8}, {4, 1000001, 10, 4, 8}, {4, 1048575, 1048575, 1048575, 8},
-        {4, 10, 0, 0, 9}, {4, 10, 11, 4, 9}, {4, 10, 1048575, 1048575, 9},
-        {4, 10, 10, 0, 10}, {4, 10, 10, 11, 10}, {4, 1000000, 5, 6, 10},
+    static const struct { struct task task; uint32_t number; } CASES[] = {
+        {{0, 10, 10, 4, 0}, 7}, {{5, 10, 10, 4, 0}, 7}, {{127, 10, 10, 4, 0}, 7}, {{0, 0, 0, 0, 0}, 7},
+        {{4, 0, 0, 0, 0}, 8}, {{4, 1000001, 10, 4, 0}, 8}, {{4, 1048575, 1048575, 1048575, 0}, 8},
+        {{4, 10, 0, 0, 0}, 9}, {{4, 10, 11, 4, 0}, 9}, {{4, 10, 1048575, 1048575, 0}, 9},
+        {{4, 10, 10, 0, 0}, 10}, {{4, 10, 10, 11, 0}, 10}, {{4, 1000000, 5, 6, 0}, 10},
     };
     for (size_t i = 0; i < sizeof CASES / sizeof CASES[0]; i++) {
         for (uint32_t task = 0; task < 3; task++) {
             struct order o = SAMPLE;
-            o.task[task] = (struct task){CASES[i].width, CASES[i].period, CASES[i].deadline, CASES[i].run, 0};
+            o.task[task] = CASES[i].task;
             both_refuse("7, 8, 9, 10: a task out of range", &o, CASES[i].number, task);
             if (task < 2) o.task[2].width = 0;
             both_refuse("7, 8, 9, 10: task by task", &o, CASES[i].number, task);
@@ -297,7 +303,9 @@ static void writer_refuses(void) {
         c.lengths[column] = 0;
         keeps("13 before 3", 0, &c, 0, 13, NONE);
     }
-    struct columns none = {.lengths = {0, 0, 0, 0}};
+    struct order no_task = SAMPLE;
+    no_task.tasks = 0;
+    struct columns none = columns_of(&no_task);
     keeps("4: no task", 4, &none, ROOM, 4, NONE);
     keeps("3 before 4", 0, &none, ROOM, 3, NONE);
 }

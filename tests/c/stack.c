@@ -73,8 +73,8 @@ static void calls(const char *what, void (*call)(void), size_t *most, uint32_t n
     }
 }
 
-static void put_record(size_t i, uint32_t tick, uint32_t task, uint32_t length) {
-    uint64_t bits = (uint64_t)tick << 28 | (uint64_t)task << 23 | (uint64_t)length << 3;
+static void put_record(size_t i, uint32_t tick, uint32_t task, uint32_t duration) {
+    uint64_t bits = (uint64_t)tick << 28 | (uint64_t)task << 23 | (uint64_t)duration << 3;
     for (size_t k = 0; k < RECORD_BYTES; k++) {
         script[RECORD_BYTES * i + k] = (uint8_t)(bits >> (8 * (RECORD_BYTES - 1 - k)));
     }
@@ -101,10 +101,10 @@ static void plan_tasks(uint32_t width, uint32_t period, uint32_t run) {
 }
 
 // The longest script: every task again and again, each some ticks after the one before it.
-static void run_longest(uint32_t round, uint32_t apart, uint32_t length) {
+static void run_longest(uint32_t round, uint32_t apart, uint32_t duration) {
     for (size_t i = 0; i < JEFKANTU_MOST_RECORDS; i++) {
         uint32_t task = (uint32_t)(i % TASKS);
-        put_record(i, (uint32_t)(i / TASKS) * round + task * apart, task, length);
+        put_record(i, (uint32_t)(i / TASKS) * round + task * apart, task, duration);
     }
     script_len = sizeof script;
     places = JEFKANTU_MOST_RECORDS;

@@ -1,35 +1,32 @@
 //! Plans the sample order, or the order in the file that is named, and prints its build as the printer does.
 
-use jefkantu::{plan, write_order, Build, Order, Refusal, Task};
+use jefkantu::{plan, write_order, Build, Order};
+use std::error::Error;
 use std::process::ExitCode;
 
-/// The sample order of document 01.
-fn sample() -> Result<Vec<u8>, Refusal> {
-    let tasks = vec![
-        Task { width: 2, period: 10, deadline: 10, run: 4 },
-        Task { width: 1, period: 14, deadline: 13, run: 4 },
-        Task { width: 1, period: 14, deadline: 13, run: 4 },
-    ];
-    write_order(&Order { processors: 4, tasks })
+/// The sample order of document 01, of 64-bit numbers: m, T, D and C of each task.
+fn sample() -> Result<Vec<u8>, Box<dyn Error>> {
+    let rows: [[i64; 4]; 3] = [[2, 10, 10, 4], [1, 14, 13, 4], [1, 14, 13, 4]];
+    Ok(write_order(&Order::of(4, rows)?)?)
 }
 
 /// The lines of the order's build.
-fn lines(order: &[u8]) -> Result<String, Refusal> {
-    let build = plan(order)?;
-    Ok(Build::read(order, &build)?.to_string())
+fn lines() -> Result<String, Box<dyn Error>> {
+    let order = match std::env::args_os().nth(1) {
+        Some(file) => std::fs::read(file)?,
+        None => sample()?,
+    };
+    let build = plan(&order)?;
+    Ok(Build::read(&order, &build)?.to_string())
 }
 
-fn main() -> Result<ExitCode, std::io::Error> {
-    let order = match std::env::args_os().nth(1) {
-        Some(file) => Ok(std::fs::read(file)?),
-        None => sample(),
-    };
-    match order.and_then(|order| lines(&order)) {
+fn main() -> ExitCode {
+    match lines() {
         Ok(lines) => print!("{lines}"),
-        Err(refusal) => {
-            eprintln!("{refusal}");
-            return Ok(ExitCode::FAILURE);
+        Err(error) => {
+            eprintln!("{error}");
+            return ExitCode::FAILURE;
         }
     }
-    Ok(ExitCode::SUCCESS)
+    ExitCode::SUCCESS
 }

@@ -14,8 +14,8 @@ pub struct Partition {
 
 /// What a build says of a task.
 #[derive(Clone, Copy, Debug, PartialEq, Eq, Hash)]
-pub struct Seat {
-    /// The partition that it runs in.
+pub struct Member {
+    /// The partition that it is a member of.
     pub partition: u32,
     /// How many members of that partition have a higher priority.
     pub rank: u32,
@@ -31,7 +31,7 @@ pub struct Build {
     /// Its partitions, by number.
     pub partitions: Vec<Partition>,
     /// Its tasks, by number.
-    pub tasks: Vec<Seat>,
+    pub tasks: Vec<Member>,
 }
 
 impl Build {
@@ -52,7 +52,7 @@ impl Build {
         Build {
             processors: header >> 13 & 127,
             partitions: partitions.chunks_exact(2).map(number).map(Partition::of_field).collect(),
-            tasks: tasks.chunks_exact(4).map(number).map(Seat::of_field).collect(),
+            tasks: tasks.chunks_exact(4).map(number).map(Member::of_field).collect(),
         }
     }
 }
@@ -64,10 +64,10 @@ impl Partition {
     }
 }
 
-impl Seat {
+impl Member {
     /// "partition 6, rank 5, worst response 20, spare 1"
-    fn of_field(field: u32) -> Seat {
-        Seat { partition: field >> 26, rank: field >> 21 & 31, response: field >> 1 & 0xF_FFFF }
+    fn of_field(field: u32) -> Member {
+        Member { partition: field >> 26, rank: field >> 21 & 31, response: field >> 1 & 0xF_FFFF }
     }
 }
 
@@ -83,7 +83,7 @@ impl fmt::Display for Build {
         for (i, Partition { volume, first }) in partitions.iter().enumerate() {
             writeln!(to, "part {i} {volume} {first}")?;
         }
-        for (i, Seat { partition, rank, response }) in tasks.iter().enumerate() {
+        for (i, Member { partition, rank, response }) in tasks.iter().enumerate() {
             writeln!(to, "task {i} {partition} {rank} {response}")?;
         }
         Ok(())

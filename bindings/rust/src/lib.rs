@@ -1,32 +1,32 @@
 //! The planner of camera boxes for Rust: the five operations of the proved library libjefkantu.a.
 //!
 //! ```
-//! use jefkantu::{plan, run, write_order, write_script, Build, Order, Release, Task};
+//! use jefkantu::{plan, run, write_order, write_script, Build, Order, Release};
 //!
-//! let tasks = vec![
-//!     Task { width: 2, period: 10, deadline: 10, run: 4 },
-//!     Task { width: 1, period: 14, deadline: 13, run: 4 },
-//! ];
-//! let order = write_order(&Order { processors: 2, tasks })?;
+//! let order = write_order(&Order::of(2, [[2, 10, 10, 4], [1, 14, 13, 4]])?)?;
 //! let build = plan(&order)?;
 //! let responses: Vec<u32> = Build::read(&order, &build)?.tasks.iter().map(|it| it.response).collect();
 //! assert_eq!(responses, [7, 8]);
 //!
-//! let releases = [Release { tick: 0, task: 1, length: 4 }, Release { tick: 1, task: 0, length: 4 }];
-//! let script = write_script(&releases).expect("each number fits its field");
+//! let script = write_script(&[Release::of(0, 1, 4)?, Release::of(1, 0, 4)?])?;
 //! assert_eq!(run(&order, &build, &script)?, [4, 8]);
-//! # Ok::<(), jefkantu::Refusal>(())
+//! # Ok::<(), Box<dyn std::error::Error>>(())
 //! ```
+//!
+//! Numbers come in whole: `of` takes whole numbers of any width, signed or not, and refuses what 32 bits or the field do
+//! not hold; `as u32` would cut it. The borrows keep what a call writes apart from what it reads.
 #![deny(missing_docs, unsafe_code)]
 
 mod build;
+mod number;
 mod order;
 mod refusal;
 mod script;
 #[allow(unsafe_code)]
 mod surface;
 
-pub use build::{Build, Partition, Seat};
+pub use build::{Build, Member, Partition};
+pub use number::{column, NotHeld, Whole};
 pub use order::{Columns, Order, Task};
 pub use refusal::{Cause, Refusal};
 pub use script::{write_script, Release};
@@ -76,7 +76,7 @@ pub fn plan(order: &[u8]) -> Result<Vec<u8>, Refusal> {
     filled(Build::MOST_BYTES, |out| plan_into(order, out))
 }
 
-/// Plans an order into the front of the caller's buffer, and answers the build's length: 1 to 10, 11, then 12.
+/// Plans an order into the front of the caller's buffer, and answers the build's duration: 1 to 10, 11, then 12.
 pub fn plan_into(order: &[u8], out: &mut [u8]) -> Result<usize, Refusal> {
     answer(surface::plan(order, out))
 }

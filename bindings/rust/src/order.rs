@@ -1,5 +1,7 @@
 //! Orders: what a box is asked to carry.
 
+use crate::number::{held, NotHeld, Whole};
+
 /// A task: a rigid gang that is released again and again. Times are in ticks of 10 microseconds.
 #[derive(Clone, Copy, Debug, PartialEq, Eq, Hash)]
 pub struct Task {
@@ -11,6 +13,23 @@ pub struct Task {
     pub deadline: u32,
     /// C: its run time, 1 to D.
     pub run: u32,
+}
+
+impl Task {
+    /// A task of numbers of any width, or the one that is no 32-bit number. The writer judges those that are.
+    pub fn of(
+        width: impl Whole,
+        period: impl Whole,
+        deadline: impl Whole,
+        run: impl Whole,
+    ) -> Result<Task, NotHeld> {
+        Ok(Task {
+            width: held("task", "width", width)?,
+            period: held("task", "period", period)?,
+            deadline: held("task", "deadline", deadline)?,
+            run: held("task", "run", run)?,
+        })
+    }
 }
 
 /// An order: the box's processors and the tasks to carry.
@@ -28,6 +47,21 @@ impl Order {
 
     /// An order read, as numbers: M, n, then m, T, D and C of 32 tasks.
     pub(crate) const NUMBERS: usize = 130;
+
+    /// An order of numbers of any width, m, T, D and C in each row, or the one that is no 32-bit number.
+    pub fn of<N: Whole>(
+        processors: impl Whole,
+        rows: impl IntoIterator<Item = [N; 4]>,
+    ) -> Result<Order, NotHeld> {
+        let task = |[width, period, deadline, run]: [N; 4]| Task::of(width, period, deadline, run);
+        let rows = rows.into_iter().enumerate();
+        Ok(Order {
+            processors: held("order", "processors", processors)?,
+            tasks: rows
+                .map(|(row, it)| task(it).map_err(|it| it.in_row(row)))
+                .collect::<Result<_, _>>()?,
+        })
+    }
 
     /// From the numbers of an order that was read.
     pub(crate) fn of_numbers(numbers: &[u32; Order::NUMBERS]) -> Order {

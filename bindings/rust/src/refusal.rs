@@ -6,7 +6,7 @@ use std::fmt;
 const NO_PLACE: u16 = 65_535;
 
 /// Each number with its place and words, stated once for every language.
-const TABLE: &str = include_str!("../../causes.txt");
+const TABLE: &str = include_str!("../../python/causes.txt");
 
 /// A number of the document's table "What comes back".
 #[derive(Clone, Copy, Debug, PartialEq, Eq)]

@@ -1,5 +1,7 @@
 //! Release scripts: which job comes when.
 
+use crate::number::{held_up_to, NotHeld, Whole};
+
 /// A record of a script.
 #[derive(Clone, Copy, Debug, PartialEq, Eq, Hash)]
 pub struct Release {
@@ -7,8 +9,8 @@ pub struct Release {
     pub tick: u32,
     /// The task released.
     pub task: u32,
-    /// How long this job runs, 1 to C.
-    pub length: u32,
+    /// The job's length, 1 to C.
+    pub duration: u32,
 }
 
 impl Release {
@@ -18,18 +20,35 @@ impl Release {
     /// The length of a record, in bytes.
     pub const BYTES: usize = 6;
 
-    /// "tick 20, task 5, length 20, spare 3"; none where a number is more than its field holds.
-    fn bytes(&self) -> Option<[u8; Release::BYTES]> {
-        let Release { tick, task, length } = *self;
-        let held = tick < 1 << 20 && task < 1 << 5 && length < 1 << 20;
-        let record = u64::from(tick) << 28 | u64::from(task) << 23 | u64::from(length) << 3;
+    /// What a field of 20 bits holds, and one of 5.
+    const MOST_TICK: u32 = (1 << 20) - 1;
+    const MOST_TASK: u32 = (1 << 5) - 1;
+
+    /// A record of numbers of any width, or the one that is more than its field holds.
+    pub fn of(
+        tick: impl Whole,
+        task: impl Whole,
+        duration: impl Whole,
+    ) -> Result<Release, NotHeld> {
+        Ok(Release {
+            tick: held_up_to(Release::MOST_TICK, "record", "tick", tick)?,
+            task: held_up_to(Release::MOST_TASK, "record", "task", task)?,
+            duration: held_up_to(Release::MOST_TICK, "record", "duration", duration)?,
+        })
+    }
+
+    /// "tick 20, task 5, length 20, spare 3"
+    fn bytes(&self) -> Result<[u8; Release::BYTES], NotHeld> {
+        let Release { tick, task, duration } = Release::of(self.tick, self.task, self.duration)?;
+        let record = u64::from(tick) << 28 | u64::from(task) << 23 | u64::from(duration) << 3;
         let [_, _, bytes @ ..] = record.to_be_bytes();
-        held.then_some(bytes)
+        Ok(bytes)
     }
 }
 
-/// Writes a script; none where a number is more than its field holds. The run says whether it is legal.
-pub fn write_script(releases: &[Release]) -> Option<Vec<u8>> {
-    let records: Option<Vec<_>> = releases.iter().map(Release::bytes).collect();
-    records.map(|records| records.concat())
+/// Writes a script, or says which record has a number that its field does not hold. The run says whether it is legal.
+pub fn write_script(releases: &[Release]) -> Result<Vec<u8>, NotHeld> {
+    let bytes = |(row, it): (usize, &Release)| it.bytes().map_err(|it| it.in_row(row));
+    let records: Vec<_> = releases.iter().enumerate().map(bytes).collect::<Result<_, _>>()?;
+    Ok(records.concat())
 }

@@ -72,7 +72,7 @@ module _ (rows : List ℕ) (count : ℕ) (fit : RowsFit rows count) where
     asked-onward =
         sum-same _ (λ r. (earlier / wordAt rows r 0 + 1) * costAt rows r + only (leb (getD due r 0) w) 1 * costAt rows r) count
         (λ r l. (let T = wordAt rows r 0 in
-            let x = only (leb (getD due r 0) w) 1 in
-            let e : (w / T + 1) * costAt rows r ≡ (earlier / T + x + 1) * costAt rows r = ap (λ (k : ℕ). (k + 1) * costAt rows r) (step-right r l) in
-            omega (arith, e, add-mul (earlier / T + x) 1 (costAt rows r), add-mul (earlier / T) x (costAt rows r), add-mul (earlier / T) 1 (costAt rows r))))
+        let x = only (leb (getD due r 0) w) 1 in
+        let e : (w / T + 1) * costAt rows r ≡ (earlier / T + x + 1) * costAt rows r = ap (λ (k : ℕ). (k + 1) * costAt rows r) (step-right r l) in
+        omega (arith, e, add-mul (earlier / T + x) 1 (costAt rows r), add-mul (earlier / T) x (costAt rows r), add-mul (earlier / T) 1 (costAt rows r))))
         ∙ sum-add (λ r. (earlier / wordAt rows r 0 + 1) * costAt rows r) (λ r. only (leb (getD due r 0) w) 1 * costAt rows r) count

@@ -91,9 +91,9 @@ module _ (rows : List ℕ) (w reach : ℕ) where
   line-none = rw (sum-none (λ r. lineAt rows r w reach .rest), sum-none (λ r. lineAt rows r w reach .slope))
 
   pub line-more : (count : ℕ) → lineIn rows (count + 1) w reach ≡ record {
-      rest = lineIn rows count w reach .rest + lineAt rows count w reach .rest;
-      slope = lineIn rows count w reach .slope + lineAt rows count w reach .slope;
-    }
+    rest = lineIn rows count w reach .rest + lineAt rows count w reach .rest;
+    slope = lineIn rows count w reach .slope + lineAt rows count w reach .slope;
+  }
   unfolding lineIn
   line-more count = rw (sum-more (λ r. lineAt rows r w reach .rest) count, sum-more (λ r. lineAt rows r w reach .slope) count)
 

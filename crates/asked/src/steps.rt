@@ -83,7 +83,13 @@ fn advance(rows: &[u32; ROWS], count: usize, w: u32, due: &mut [u32; Order::MOST
 }
 
 // From an earlier tick on to w: by one release of each at most, else anew.
-pub fn go_on(rows: &[u32; ROWS], count: usize, all: u64, w: u32, due: &mut [u32; Order::MOST_TASKS]) -> Step
+pub fn go_on(
+    rows: &[u32; ROWS],
+    count: usize,
+    all: u64,
+    w: u32,
+    due: &mut [u32; Order::MOST_TASKS],
+) -> Step
     requires { ⌜ RowsFit (now rows) count × (w ≤ 2_000_000) × DuesBefore (now rows) count all w (now due) ⌝ }
     ensures all { λ r. ⌜ r .all ≡ askedBy (now (rows .entry)) count w ⌝ }
     ensures next { λ r. ⌜ r .next ≡ least far (dueAfter (now (rows .entry)) w) count ⌝ }

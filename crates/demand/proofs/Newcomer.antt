@@ -43,8 +43,12 @@ module _ (o : Order) (before after : Members) (more : (k : ℕ) → k < o .tasks
   pub window-more : (j t : ℕ) → windowDemand o before j t ≤ windowDemand o after j t
   unfolding windowDemand higher
   window-more j t =
-      omega (arith, blocking-more j, sum-le (λ k. only (eqb k j || (before k && outranks o k j)) (workIn (taskOf o k) t)) (λ k. only (eqb k j || (after k && outranks o k j)) (workIn (taskOf o k) t)) (o .tasks)
-      (λ k l. only-more (eqb k j) (before k && outranks o k j) (after k && outranks o k j) (workIn (taskOf o k) t) (and-more (before k) (after k) (outranks o k j) (more k l))))
+      omega (
+        arith,
+        blocking-more j,
+        sum-le (λ k. only (eqb k j || (before k && outranks o k j)) (workIn (taskOf o k) t)) (λ k. only (eqb k j || (after k && outranks o k j)) (workIn (taskOf o k) t)) (o .tasks)
+            (λ k l. only-more (eqb k j) (before k && outranks o k j) (after k && outranks o k j) (workIn (taskOf o k) t) (and-more (before k) (after k) (outranks o k j) (more k l))),
+      )
 
 -- the members before and after task i joined; the others are members where they were
 module _ (o : Order) (before after : Members) (i j : ℕ) (others : (k : ℕ) → k < o .tasks → (k ≡ i → ⊥) → after k ≡ before k) (out : before i ≡ false) (above : outranks o j i ≡ true) where

@@ -1,10 +1,5 @@
-pub mod Turns
-pub mod Put
-pub mod Accepts
-pub mod Newcomer
-pub mod Standing
-pub mod Steps
-pub mod Claims
+pub mod Turn
 pub mod Loop
+pub mod Writing
 pub mod Built
 pub mod Fields

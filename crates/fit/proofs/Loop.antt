@@ -1,48 +1,86 @@
--- The loop over the steps, as the code runs it: before, in and after its turns.
-use mathlib.Core.Path.{_≡_, sym, ap, ap₂, _∙_, subst}
+-- The turns, as the code takes them: before, in and after its loop.
+use mathlib.Core.Path.{_≡_, refl, sym, ap, ap₂, _∙_, subst}
+use mathlib.Core.Bool.{true, false, not}
 use mathlib.Core.List.{List}
 use Prim.Native.Nat.{ℕ, suc, _+_, _-_, _≤_, _<_}
 use native.Mathlib.Omega.{arith}
+use lib.ListN.{length, getD, replicate, getD-replicate}
+use borrow.Author.Tests.{eq-eqb}
+use Rattle.laws.proofs.Every.{clash}
+use Rattle.laws.proofs.Filled.{getD-alike}
+use Rattle.model.specs.declared.order.Order.{Order}
+use Rattle.model.specs.declared.answer.Answer.the-variants.{Done, Refused}
+use Rattle.model.specs.declared.answer.Refusal.{Refusal}
+use Rattle.model.specs.Limits.{mostTasks}
 use Rattle.model.specs.Rules.{WithinLimits}
-use Rattle.fit.specs.Kinds.{Task, Order, Done, Refused, Refusal, Placing, Outcome}
-use Rattle.fit.specs.Steps.{nothingPlaced, goingOn, step, steps, firstFit}
-use Rattle.fit.proofs.Standing.{Stands}
-use Rattle.fit.proofs.Steps.{steps-none, steps-end, steps-next, stands-next}
-use Rattle.fit.proofs.Claims.{sound, widths, start}
+use Rattle.roster.proofs.Lining.{lined-none}
+use Rattle.turns.specs.Turns.{unplaced, homeAt, isUnplaced}
+use Rattle.fitting.specs.declared.Placing.{Placing}
+use Rattle.fitting.specs.declared.Outcome.{Outcome}
+use Rattle.fitting.specs.Steps.{nothingPlaced, goingOn, turnTaken, turnsTaken, firstFit}
+use Rattle.fitting.proofs.Turning.{steps-none, steps-end, steps-next}
+use Rattle.fitting.proofs.Claims.{start}
+use Rattle.fit.specs.Taking.{Lines, Taken, AllTaken}
 
-module _ (order : Order) (limits : WithinLimits order) where
-  abbrev table : List Task
-  table = order .table
+module _ (o : Order) (limits : WithinLimits o) where
+  -- what is known between turns: the lines, and what the other turns come to
+  pub record Between (s : Placing) (placed : ℕ) (keys lasts worsts : List ℕ) : Type 0 where
+    pub upto : placed ≤ o .tasks
+    pub lines : Lines o s placed keys lasts worsts
+    pub others : turnsTaken o (o .tasks - placed) s ≡ firstFit o
 
-  abbrev n : ℕ
-  n = order .tasks
+  waits : (j : ℕ) → j < o .tasks → isUnplaced (nothingPlaced .homes) j ≡ true
+  unfolding isUnplaced
+  waits j l = eq-eqb (homeAt (replicate mostTasks unplaced) j) unplaced (getD-replicate mostTasks j unplaced 0 (omega (arith, limits .tasks .1)))
 
-  abbrev M : ℕ
-  M = order .processors
-
-  pub loop-start : (s : Placing) → s ≡ nothingPlaced → Stands table n M 0 s × (steps table n M (n - 0) s ≡ firstFit table n M)
+  pub at-first : (s : Placing) (keys worsts : List ℕ) → s ≡ nothingPlaced → length keys ≡ mostTasks → length worsts ≡ mostTasks → Between s 0 keys (replicate mostTasks 0) worsts
   unfolding firstFit
-  loop-start s e = (subst (Stands table n M 0) (sym e) (start order limits), ap₂ (λ (k : ℕ) (x : Placing). steps table n M k x) (omega arith) e)
+  at-first s keys worsts e key-places worst-places =
+      record {
+        upto = omega arith;
+        lines = subst (λ (x : Placing). Lines o x 0 keys (replicate mostTasks 0) worsts) (sym e)
+            (record {
+              stands = start o limits;
+              key-places = key-places;
+              line = lined-none o limits (λ j. not (isUnplaced (nothingPlaced .homes) j)) (homeAt (nothingPlaced .homes)) keys (λ j l. ap not (waits j l));
+              known = record {
+                last-places = refl;
+                worst-places = worst-places;
+                waiting = λ j l u. getD-alike mostTasks j 0;
+                near = λ j l. subst (λ (x : ℕ). x ≤ 2_000_000) (sym (getD-alike {A = ℕ} mostTasks j 0)) (omega arith);
+                unclosed = λ j l p. clash (sym p ∙ waits j l);
+                passing = λ j l p. clash (sym p ∙ waits j l);
+              };
+            });
+        others = ap₂ (λ (k : ℕ) (x : Placing). turnsTaken o k x) (omega arith) e;
+      }
 
-  module _ (placed : ℕ) (s : Placing) (is : Stands table n M placed s) (on : steps table n M (n - placed) s ≡ firstFit table n M) where
-    pub loop-done : n ≤ placed → placed ≤ n → goingOn s ≡ firstFit table n M
-    loop-done a b = sym (steps-none table n M s) ∙ (ap (λ (k : ℕ). steps table n M k s) (omega arith) ∙ on)
+  module _ (s : Placing) (placed : ℕ) (keys lasts worsts : List ℕ) (is : Between s placed keys lasts worsts) where
+    pub all-done : o .tasks ≤ placed → (r : Outcome) → r ≡ goingOn s → AllTaken o r keys worsts
+    all-done le r e =
+        let all : placed ≡ o .tasks = omega (arith, is .upto) in
+        let none : o .tasks - placed ≡ 0 = omega arith in
+        record {
+          answer = e ∙ sym (steps-none o s) ∙ ap (λ (k : ℕ). turnsTaken o k s) (sym none) ∙ is .others;
+          lines = λ count done. (lasts, subst (λ (x : Outcome). Lines o (x .placing) (o .tasks) keys lasts worsts) (sym e) (subst (λ (k : ℕ). Lines o s k keys lasts worsts) all (is .lines)));
+        }
 
-    module _ (early : placed < n) (o : Outcome) (stepped : o ≡ step table n M s) where
-      left : n - placed ≡ suc (n - (placed + 1))
+    module _ (early : placed < o .tasks) (r : Outcome) (keys′ lasts′ worsts′ : List ℕ) (taken : Taken o s placed r keys′ lasts′ worsts′) where
+      left : o .tasks - placed ≡ suc (o .tasks - (placed + 1))
       left = omega arith
 
-      pub loop-stop : (cause : Refusal) → o .answer ≡ Refused cause → o ≡ firstFit table n M
-      loop-stop cause e =
-          stepped
-          ∙ (sym (steps-end table n M (n - (placed + 1)) s cause (ap (λ (x : Outcome). x .answer) (sym stepped) ∙ e))
-          ∙ (ap (λ (k : ℕ). steps table n M k s) (sym left) ∙ on))
+      pub one-refused : (cause : Refusal) → r .answer ≡ Refused cause → AllTaken o r keys′ worsts′
+      one-refused cause e =
+          record {
+            answer = taken .answer ∙ sym (steps-end o (o .tasks - (placed + 1)) s cause (ap (λ (x : Outcome). x .answer) (sym (taken .answer)) ∙ e)) ∙ ap (λ (k : ℕ). turnsTaken o k s) (sym left) ∙ is .others;
+            lines = λ count done. (let f : Refused cause ≡ Done count = sym e ∙ done in let z : _≡_ {A = ℕ} 0 1 = cc f in absurd (omega arith));
+          }
 
-      pub loop-more : (count : ℕ) → o .answer ≡ Done count → Stands table n M (placed + 1) (o .placing) × (steps table n M (n - (placed + 1)) (o .placing) ≡ firstFit table n M)
-      loop-more count e =
-          let done = ap (λ (x : Outcome). x .answer) (sym stepped) ∙ e in
-          let same = ap (λ (x : Outcome). x .placing) stepped in (
-            subst (Stands table n M (placed + 1)) (sym same) (stands-next table n M (sound order limits) (widths order limits) placed s count is early done),
-            ap (steps table n M (n - (placed + 1))) same
-                ∙ (sym (steps-next table n M (n - (placed + 1)) s count done) ∙ (ap (λ (k : ℕ). steps table n M k s) (sym left) ∙ on)),
-          )
+      pub one-more : (count : ℕ) → r .answer ≡ Done count → Between (r .placing) (placed + 1) keys′ lasts′ worsts′
+      one-more count e =
+          let same = ap (λ (x : Outcome). x .placing) (taken .answer) in
+          record {
+            upto = omega arith;
+            lines = taken .lines count e;
+            others = ap (turnsTaken o (o .tasks - (placed + 1))) same ∙ sym (steps-next o (o .tasks - (placed + 1)) s count (ap (λ (x : Outcome). x .answer) (sym (taken .answer)) ∙ e)) ∙ ap (λ (k : ℕ). turnsTaken o k s) (sym left) ∙ is .others;
+          }

@@ -1,6 +1,3 @@
-pub mod Kinds
-pub mod Turns
-pub mod Steps
-pub mod Newcomer
 pub mod Recorded
+pub mod Taking
 pub mod Claims

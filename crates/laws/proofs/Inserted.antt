@@ -49,7 +49,7 @@ sum-inserted p x f n le =
     let front : sum g p ≡ sum f p = sum-same g f p (λ r l. inserted-before p x f r l) in
     let first : g (p + 0) ≡ x = ap g (add-zero p) ∙ inserted-here p x f in
     let behind : sum (λ r. g (p + suc r)) (n - p) ≡ sum (λ r. f (p + r)) (n - p) =
-          sum-same _ _ (n - p) (λ r l. inserted-after p x f (p + suc r) (omega arith) ∙ ap f (omega arith)) in
+    sum-same _ _ (n - p) (λ r l. inserted-after p x f (p + suc r) (omega arith) ∙ ap f (omega arith)) in
     let cut : sum g (n + 1) ≡ sum g p + sum (λ r. g (p + r)) (suc (n - p)) = ap (sum g) whole ∙ sum-split g p (suc (n - p)) in
     let rest : sum f n ≡ sum f p + sum (λ r. f (p + r)) (n - p) = ap (sum f) less ∙ sum-split f p (n - p) in
     omega (arith, cut, rest, front, first, behind, sum-first (λ r. g (p + r)) (n - p))

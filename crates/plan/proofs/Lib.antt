@@ -1,3 +1,3 @@
 pub mod Rules
+pub mod Causes
 pub mod Claims
-pub mod Fields

@@ -1,6 +1,7 @@
 // The planner: from an order's bytes to its build's bytes, or the first refusal.
 use model::Answer;
 use model::Build;
+use model::CallCause;
 use model::Refusal;
 ghost use Rattle.build.specs.Build.{FieldsFit};
 ghost use Rattle.plan.specs.Plan.{PutsBuild, Plans};
@@ -12,9 +13,9 @@ fn put_build(build: Build, out: &mut [u8]) -> Answer
 {
     let size = Build::bytes(build.partitions as usize, build.tasks as usize);
     if out.len() < size {
-        return Answer::Refused(Refusal::Output);
+        return Answer::Refused(Refusal::OfCall(CallCause::Output));
     }
-    build::write_build(build, out);
+    build_out::write_build(build, out);
     Answer::Done(size as u32)
 }
 

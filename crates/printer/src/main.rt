@@ -90,13 +90,33 @@ fn show_refusal(answer: Answer) {
     end_line();
 }
 
-fn main() {
-    let mut order = [0u8; MOST_ORDER];
-    let size = io::read_full(0, &mut order);
+// Whether the input ends here; a read that fails or was broken off gives a short count too.
+fn has_ended() -> bool {
+    let mut more = [0u8; 1];
+    let got = libc::read(0, &mut more);
+    got == 0
+}
+
+// What could not be read is no order, so nothing is said of it on standard output.
+fn show_unreadable() {
+    io::write_all(2, b"standard input cannot be read\n");
+}
+
+fn show_plan(order: &[u8]) {
     let mut bytes = [0u8; MOST_BUILD];
-    let answer = plan::plan(&order[..size], &mut bytes);
+    let answer = plan::plan(order, &mut bytes);
     match answer {
         Answer::Done(_) => show_build(&bytes),
         Answer::Refused(_) => show_refusal(answer),
+    }
+}
+
+fn main() {
+    let mut order = [0u8; MOST_ORDER];
+    let size = io::read_full(0, &mut order);
+    if size == MOST_ORDER || has_ended() {
+        show_plan(&order[..size]);
+    } else {
+        show_unreadable();
     }
 }

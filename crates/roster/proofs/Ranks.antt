@@ -30,16 +30,21 @@ unfolding sum
 ones zero = refl
 ones (suc n) = omega (arith, ones n)
 
+-- what counts as the members do has a place for each member
+pub place-in : (o : Order) (member : Members) (number : ℕ → ℕ) (count : ℕ) → ((f : ℕ → ℕ) → sum (λ i. only (member i) (f i)) (o .tasks) ≡ sum (λ r. f (number r)) count)
+    → (i : ℕ) → i < o .tasks → member i ≡ true → (r : ℕ) × (r < count) × (number r ≡ i)
+place-in o member number count sums i l m =
+    let f : ℕ → ℕ = λ j. only (eqb j i) 1 in
+    let own : f i ≡ 1 = only-true (eqb i i) 1 (eq-eqb i i refl) in
+    let counted : only (member i) (f i) ≡ 1 = only-true (member i) (f i) m ∙ own in
+    let some : 0 < sum (λ r. f (number r)) count = omega (arith, sums f, sum-in (λ j. only (member j) (f j)) (o .tasks) i l, counted) in
+    let there = sum-some (λ r. f (number r)) count some in
+    (there .0, there .1, eqb-true _ _ (only-some (eqb (number (there .0)) i) 1 (there .2) .0))
+
 module _ (o : Order) (member : Members) (number : ℕ → ℕ) (count : ℕ) (is : Ranked o member number count) where
   -- each member has a place
   pub place-of : (i : ℕ) → i < o .tasks → member i ≡ true → (r : ℕ) × (r < count) × (number r ≡ i)
-  place-of i l m =
-      let f : ℕ → ℕ = λ j. only (eqb j i) 1 in
-      let own : f i ≡ 1 = only-true (eqb i i) 1 (eq-eqb i i refl) in
-      let counted : only (member i) (f i) ≡ 1 = only-true (member i) (f i) m ∙ own in
-      let some : 0 < sum (λ r. f (number r)) count = omega (arith, is .sums f, sum-in (λ j. only (member j) (f j)) (o .tasks) i l, counted) in
-      let there = sum-some (λ r. f (number r)) count some in
-      (there .0, there .1, eqb-true _ _ (only-some (eqb (number (there .0)) i) 1 (there .2) .0))
+  place-of = place-in o member number count (is .sums)
 
   -- places before outrank, and only they
   above : (r s : ℕ) → r < count → s < r → outranks o (number s) (number r) ≡ true

@@ -53,7 +53,7 @@ module _ (rows : List ℕ) (r : ℕ) (task : Task) (is : RowOf rows r task) wher
   unfolding responseOver
   row-response work B =
       fun-ext (λ q. ap (λ (C : ℕ). responseFrom (firstMet (startOver work (B + q * C)) 0) C (q * rowTask rows r .period)) row-cost
-          ∙ ap (λ (T : ℕ). responseFrom (firstMet (startOver work (B + q * cost task)) 0) (cost task) (q * T)) (is .period))
+      ∙ ap (λ (T : ℕ). responseFrom (firstMet (startOver work (B + q * cost task)) 0) (cost task) (q * T)) (is .period))
 
   row-jobs : (L : ℕ) → jobs (rowTask rows r) L ≡ jobs task L
   unfolding jobs

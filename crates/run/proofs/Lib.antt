@@ -1,3 +1,3 @@
 pub mod Chain
-pub mod Says
+pub mod Script
 pub mod Claims

@@ -1,2 +1,4 @@
 pub mod Script
+pub mod Held
+pub mod Judged
 pub mod Claims

@@ -83,8 +83,8 @@ farEnough o f i =
     }
 
 -- "record by record 41 to 45 with the record as place"
-unfoldable pub recordRules : Order → List ℕ → (i : ℕ) → List Rule
-recordRules o s i =
+unfoldable pub releaseRules : Order → List ℕ → (i : ℕ) → List Rule
+releaseRules o s i =
     let r = releaseAt s i in
     rule (equal (spareAt s i) 0) (OfScript (RecordSpare i))
     ∷ rule (record { says = r .task < o .tasks; test = ltb (r .task) (o .tasks) }) (OfScript (RecordTask i))
@@ -98,4 +98,4 @@ unfoldable pub scriptRules : Order → List ℕ → (places : ℕ) → List Rule
 scriptRules o s places =
     rule (wholeRecords s) (OfScript ScriptLength)
     ∷ rule (atMost (recordsIn s) places) (OfScript FinishPlaces)
-    ∷ joined (recordRules o s) (recordsIn s)
+    ∷ joined (releaseRules o s) (recordsIn s)

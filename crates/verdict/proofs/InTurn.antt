@@ -206,12 +206,12 @@ module _ (work : ℕ → ℕ) (grows : Grows work) (B : ℕ) (task : Task) (size
           let met : windowOver work B task (last + 1) ≤ last + 1 = omega (arith, m .met, own-few last in-period, base-next, ap work same, ap (workBy task) same) in
           let late : release ≤ last = elim (decLe release last) [ yes le ↦ le | no gt ↦ absurd (omega (arith, met, going .opened (last + 1) (omega arith) (omega arith) (omega arith))) ] in
           let window : FirstMetAt (windowOver work B task) 1 (last + 1) =
-                record { from = omega arith; upto = omega (arith, m .upto); met = met; earlier = λ s a l. still-open last (m .unmet) s a (omega arith) (omega (arith, m .upto)) } in
+          record { from = omega arith; upto = omega (arith, m .upto); met = met; earlier = λ s a l. still-open last (m .unmet) s a (omega arith) (omega (arith, m .upto)) } in
           let after : start + C ≤ last + 1 = elim (decLe (start + C) (last + 1)) [ yes le ↦ le | no gt ↦ absurd (omega (arith, m .met, unmet-end last (omega arith))) ] in
           let few : jobs task (last + 1) ≡ q + 1 =
-                le-antisymm
-                (elim (decLe (jobs task (last + 1)) (q + 1)) [ yes le ↦ le | no gt ↦ absurd (omega (arith, jobs-are task (sized .period-least) (q + 1) (last + 1) .1 (omega arith), add-mul q 1 T, one-mul T, going .release-is)) ])
-                (omega (arith, jobs-are task (sized .period-least) q (last + 1) .0 (omega (arith, going .release-is)))) in
+          le-antisymm
+          (elim (decLe (jobs task (last + 1)) (q + 1)) [ yes le ↦ le | no gt ↦ absurd (omega (arith, jobs-are task (sized .period-least) (q + 1) (last + 1) .1 (omega arith), add-mul q 1 T, one-mul T, going .release-is)) ])
+          (omega (arith, jobs-are task (sized .period-least) q (last + 1) .0 (omega (arith, going .release-is)))) in
           let most : max worst (start + C - release) ≤ task .deadline = omega (arith, going .in-time, end-due) in
           in-window (last + 1) (met-at (windowOver work B task) 1 (last + 1) window)
           ∙ ap (λ (k : ℕ). judged (task .deadline) (largestFound (responseOver work B task) k)) few

@@ -106,7 +106,13 @@ pub fn has_window(rows: &[u32; ROWS], rank: usize, blocking: u32, from: u32) -> 
     requires { ⌜ RowsFit (now rows) (rank + 1) × (blocking ≤ 1_000_000) × (from ≤ 2_000_000) × UnmetBelow (askedBy (now rows) (rank + 1)) blocking from ⌝ }
     ensures { λ r. ⌜ r ≡ isThere (windowOf (askedBy (now (rows .entry)) rank) blocking (rowTask (now (rows .entry)) rank)) ⌝ }
 {
-    let search = asked::met(rows, rank + 1, model::wide(blocking), from, Task::HORIZON - 1);
+    let search = asked::met(
+        rows,
+        rank + 1,
+        model::wide(blocking),
+        from,
+        Task::HORIZON - 1,
+    );
     let found = search.found;
     match found {
         Found::At(_) => true,

@@ -1,170 +1,106 @@
-//! Times the static library against this program, operation by operation, in one process.
+//! Times the three sides in one process: the library, the second program and the program written for speed.
 //!
-//! `bench [RUNS]`: each figure is the best of so many runs (7), the two programs in turn.
+//! `bench [--runs N] [--limits]`: each figure is the best of so many runs (25), the sides in turn; with `--limits` it
+//! fails where the library takes more times as long as the fastest other side than the operation's limit.
 
-use second::answer::Answer;
-use second::generate::random::Random;
-use second::generate::{builds, papers, scripts, slow, Scale};
-use second::library::{jefkantu_check, jefkantu_plan, jefkantu_run};
-use second::order::Order;
-use second::script;
-use std::hint::black_box;
+use second::bench::given::{self, Given};
+use second::bench::table::Tables;
+use second::bench::Operation::{Check, CheckInOne, Plan, Run};
+use second::generate::papers;
 use std::process::exit;
-use std::time::{Duration, Instant};
 
-/// Ours may take so many times as long as the second program.
-const MOST: f64 = 1.5;
+/// All sides; and without the second program, whose plain search takes minutes for the slow orders.
+const ALL: [usize; 3] = [0, 1, 2];
+const FAST: [usize; 2] = [0, 2];
 
-/// An order with its build, if it has one, the build with all in one partition, and a legal script.
-struct Case {
-    order: Vec<u8>,
-    build: Vec<u8>,
-    by_hand: Vec<u8>,
-    script: Vec<u8>,
+/// How many orders of a family are drawn.
+const ORDERS: u32 = 100;
+
+/// Accepted orders apart from refused ones.
+fn apart(given: &[Given]) -> (Vec<&Given>, Vec<&Given>) {
+    given.iter().partition(|given| given.accepted())
 }
 
-impl Case {
-    fn new(random: &mut Random, order: &Order) -> Case {
-        let mut build = vec![0; 195];
-        let bytes = order.bytes();
-        let planned = second::plan(&bytes, &mut build);
-        build.truncate(planned.count as usize);
-        let scale = Scale::FULL;
-        let script = (0..20).map(|_| scripts::legal(random, order, &scale)).max_by_key(Vec::len);
-        let by_hand = builds::all_in_one(order).bytes();
-        Case { order: bytes, build, by_hand, script: script::bytes(&script.unwrap_or_default()) }
+fn families(tables: &mut Tables) {
+    tables.head("Orders of the source documents", "Orders");
+    for (name, draw) in papers::FAMILIES {
+        let given = given::family(draw, ORDERS);
+        let (accepted, refused) = apart(&given);
+        let refused_name = format!("{name}, refused");
+        tables.row(name, Plan, &ALL, &accepted);
+        tables.row(&refused_name, Plan, &ALL, &refused);
+        tables.row(name, Check, &ALL, &accepted);
+        let in_one = given.iter().partition(|given| accepts_in_one(given));
+        let (accepted_in_one, refused_in_one): (Vec<&Given>, Vec<&Given>) = in_one;
+        tables.row(name, CheckInOne, &ALL, &accepted_in_one);
+        tables.row(&refused_name, CheckInOne, &ALL, &refused_in_one);
+        tables.row(name, Run, &ALL, &accepted);
     }
 }
 
-/// One operation of both programs, on one case.
-struct Operation {
-    name: &'static str,
-    ours: fn(&Case) -> Answer,
-    second: fn(&Case) -> Answer,
+fn accepts_in_one(given: &Given) -> bool {
+    second::check(&given.order, &given.in_one).number == 0
 }
 
-const OPERATIONS: [Operation; 4] = [
-    Operation {
-        name: "plan",
-        ours: |case| {
-            let (order, mut out) = (&case.order, [0u8; 195]);
-            Answer::unpack(unsafe {
-                jefkantu_plan(order.as_ptr(), order.len(), out.as_mut_ptr(), out.len())
-            })
-        },
-        second: |case| second::plan(&case.order, &mut [0; 195]),
-    },
-    Operation {
-        name: "check",
-        ours: |Case { order, build, .. }| library_check(order, build),
-        second: |case| second::check(&case.order, &case.build),
-    },
-    Operation {
-        name: "check, all in one",
-        ours: |Case { order, by_hand, .. }| library_check(order, by_hand),
-        second: |case| second::check(&case.order, &case.by_hand),
-    },
-    Operation {
-        name: "run",
-        ours: |Case { order, build, script, .. }| {
-            let mut out = [0u32; 1_024];
-            let (to, room) = (out.as_mut_ptr(), out.len());
-            Answer::unpack(unsafe {
-                jefkantu_run(
-                    order.as_ptr(),
-                    order.len(),
-                    build.as_ptr(),
-                    build.len(),
-                    script.as_ptr(),
-                    script.len(),
-                    to,
-                    room,
-                )
-            })
-        },
-        second: |case| second::run(&case.order, &case.build, &case.script, &mut [0; 1_024]),
-    },
-];
-
-fn library_check(order: &[u8], build: &[u8]) -> Answer {
-    Answer::unpack(unsafe {
-        jefkantu_check(order.as_ptr(), order.len(), build.as_ptr(), build.len())
-    })
-}
-
-/// How long one program takes for all cases, so many times.
-fn time(program: fn(&Case) -> Answer, cases: &[Case], times: u32) -> Duration {
-    let start = Instant::now();
-    for _ in 0..times {
-        for case in cases {
-            black_box(program(black_box(case)));
+fn filling(tables: &mut Tables) {
+    tables.head("32 tasks in one, 8 and 32 partitions", "Partitions");
+    for partitions in [1, 8, 32] {
+        let given = given::filling(partitions, 1_024, 20);
+        let (accepted, _) = apart(&given);
+        for operation in [Plan, Check, Run] {
+            tables.row(&partitions.to_string(), operation, &ALL, &accepted);
         }
     }
-    start.elapsed() / times
 }
 
-/// The best times of both, in turn, each run long enough for the clock.
-fn times(operation: &Operation, cases: &[Case], runs: u32) -> (Duration, Duration) {
-    let once = time(operation.second, cases, 1).max(Duration::from_nanos(100));
-    let times = (Duration::from_millis(10).as_nanos() / once.as_nanos()).clamp(1, 10_000) as u32;
-    let mut best = (Duration::MAX, Duration::MAX);
-    for _ in 0..runs {
-        best.0 = best.0.min(time(operation.ours, cases, times));
-        best.1 = best.1.min(time(operation.second, cases, times));
+fn growth(tables: &mut Tables) {
+    tables.head("How plan grows with n (003, M = 16, accepted)", "n");
+    for n in [2, 4, 8, 12, 16, 20, 24, 28, 32] {
+        let given = given::growing(n, 40);
+        tables.row(&n.to_string(), Plan, &ALL, &apart(&given).0);
     }
-    best
-}
-
-/// The demand terms of an operation over all cases.
-fn terms(name: &str, cases: &[Case]) -> u64 {
-    let of = |case: &Case| match name {
-        "plan" => second::plan_counting(&case.order, &mut [0; 195]).1,
-        "check, all in one" => second::check_counting(&case.order, &case.by_hand).1,
-        _ => second::check_counting(&case.order, &case.build).1,
-    };
-    cases.iter().map(of).sum()
-}
-
-/// One row for each operation; whether all are fast enough.
-fn rows(name: &str, cases: &[Case], runs: u32) -> bool {
-    let mut fast = true;
-    for operation in &OPERATIONS {
-        assert!(cases.iter().all(|case| (operation.ours)(case) == (operation.second)(case)));
-        let (ours, second) = times(operation, cases, runs);
-        let each = |all: Duration| all.as_secs_f64() * 1e6 / cases.len() as f64;
-        let ratio = ours.as_secs_f64() / second.as_secs_f64();
-        let terms = terms(operation.name, cases) / cases.len() as u64;
-        println!(
-            "| {name} | {} | {terms} | {:.1} | {:.1} | {ratio:.2} |",
-            operation.name,
-            each(ours),
-            each(second)
-        );
-        fast &= ratio <= MOST;
+    tables.head("How run grows with records (32 tasks, 8 partitions)", "Records");
+    for records in [0, 32, 64, 128, 256, 512, 1_024] {
+        let given = given::filling(8, records, 20);
+        tables.row(&records.to_string(), Run, &ALL, &apart(&given).0);
     }
-    fast
+}
+
+fn slow(tables: &mut Tables) {
+    tables.head("Orders that were made to be slow", "Order");
+    for (place, given) in given::slow_ones().iter().enumerate() {
+        let name = format!("slow {}", place + 1);
+        tables.row(&name, Plan, &FAST, &[given]);
+        tables.row(&name, CheckInOne, &FAST, &[given]);
+        if given.accepted() {
+            tables.row(&name, Run, &FAST, &[given]);
+        }
+    }
 }
 
 fn main() {
-    let runs = std::env::args().nth(1).map_or(7, |runs| runs.parse().expect("a number of runs"));
-    let mut random = Random::new(1);
-    println!("| Orders | Operation | Terms | Library, µs | Second, µs | Ratio |");
-    println!("|---|---|---|---|---|---|");
-    let mut fast = true;
-    for (name, draw) in papers::FAMILIES {
-        let cases: Vec<Case> = (0..100)
-            .map(|_| {
-                let order = draw(&mut random);
-                Case::new(&mut random, &order)
-            })
-            .collect();
-        fast &= rows(name, &cases, runs);
+    let mut tables = Tables { runs: 25, largest: Vec::new() };
+    let mut limits = false;
+    let mut arguments = std::env::args().skip(1);
+    while let Some(word) = arguments.next() {
+        match word.as_str() {
+            "--limits" => limits = true,
+            "--runs" => {
+                let runs = arguments.next().and_then(|number| number.parse().ok());
+                tables.runs = runs.expect("--runs N");
+            }
+            _ => {
+                eprintln!("options: --runs N  --limits");
+                exit(2)
+            }
+        }
     }
-    for (place, order) in slow::known().iter().enumerate() {
-        fast &= rows(&format!("slow {}", place + 1), &[Case::new(&mut random, order)], runs);
-    }
-    if !fast {
-        println!("some ratio is over {MOST}");
+    families(&mut tables);
+    filling(&mut tables);
+    growth(&mut tables);
+    slow(&mut tables);
+    if !tables.close() && limits {
+        println!("\nsome ratio is over its limit");
         exit(1);
     }
 }

@@ -13,14 +13,14 @@ use second::tally::Tally;
 use std::cell::Cell;
 use std::process::exit;
 
-/// The static library.
+/// The static library, given copies of the inputs, which are looked at afterwards.
 #[derive(Default)]
-struct Library {
+struct Watched {
     /// Whether it ever changed an input.
     meddled: Cell<bool>,
 }
 
-impl Library {
+impl Watched {
     /// Calls the library with copies of the inputs, each as a pointer and a length.
     fn lend<T: Copy + PartialEq, const K: usize>(
         &self,
@@ -36,7 +36,7 @@ impl Library {
     }
 }
 
-impl Program for Library {
+impl Program for Watched {
     fn read_order(&self, order: &[u8], numbers: &mut [u32; Order::NUMBERS]) -> Answer {
         self.lend([order], |[o]| unsafe { jefkantu_read_order(o.0, o.1, numbers) })
     }
@@ -90,7 +90,7 @@ fn operations(options: &Options) -> Vec<Operation> {
 fn main() {
     let options = Options::from_arguments();
     let operations = operations(&options);
-    let library = Library::default();
+    let library = Watched::default();
     let mut tally = Tally::new(&operations);
     for index in 0..options.cases {
         let case = cases::nth(options.seed, index, &operations, &Scale::FULL);

@@ -21,17 +21,24 @@ pub fn by_hand(random: &mut Random, order: &Order) -> Build {
 
 /// The build with all tasks in one partition, with sound ranks, and sound responses where they pass.
 pub fn all_in_one(order: &Order) -> Build {
-    let mut all = Roster::default();
-    for (i, &task) in order.tasks.iter().enumerate() {
-        all.add(i, task);
+    let mut build = ranked_in_one(order);
+    let rosters = build.rosters(order);
+    for seat in &mut build.seats {
+        seat.response = rosters[0].response(seat.rank as usize).unwrap_or(0);
     }
-    let mut seats = vec![Seat::default(); order.tasks.len()];
-    for (rank, &i) in all.numbers.iter().enumerate() {
-        let response = all.response(rank, &mut ()).unwrap_or(0);
-        seats[i] = Seat { partition: 0, rank: rank as u32, response };
-    }
+    build
+}
+
+/// The build with all tasks in one partition, with sound ranks and no responses.
+pub fn ranked_in_one(order: &Order) -> Build {
     let partitions = vec![Partition { volume: order.processors, first: 0 }];
-    Build { processors: order.processors, partitions, seats }
+    let seats = vec![Seat::default(); order.tasks.len()];
+    let mut build = Build { processors: order.processors, partitions, seats };
+    let rosters = build.rosters(order);
+    for (rank, &i) in rosters[0].numbers.iter().enumerate() {
+        build.seats[i].rank = rank as u32;
+    }
+    build
 }
 
 /// The fields of a build on the wire.
@@ -52,7 +59,7 @@ fn sensible(random: &mut Random, order: &Order) -> Vec<Roster> {
         random.shuffle(&mut rosters);
         let mut takers = rosters.iter_mut().filter_map(|roster| {
             let joined = roster.with(i, order.tasks[i]);
-            joined.all_pass(i, &mut ()).then_some((roster, joined))
+            joined.all_pass().then_some((roster, joined))
         });
         if let Some((roster, joined)) = takers.next() {
             *roster = joined;
@@ -131,7 +138,7 @@ fn seats(random: &mut Random, order: &Order, rosters: &[Roster]) -> Vec<Seat> {
     let mut seats = vec![Seat::default(); order.tasks.len()];
     for (partition, roster) in rosters.iter().enumerate() {
         for (rank, &i) in roster.numbers.iter().enumerate() {
-            let response = roster.response(rank, &mut ()).ok();
+            let response = roster.response(rank).ok();
             seats[i] = Seat {
                 partition: partition as u32,
                 rank: rank as u32,

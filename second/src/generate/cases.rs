@@ -26,7 +26,7 @@ fn draw(random: &mut Random, operation: Operation, scale: &Scale) -> Case {
 
 /// An order that first fit accepts, if one of a few does.
 fn acceptable(random: &mut Random, scale: &Scale) -> Order {
-    let accepted = |order: &Order| first_fit(order, &mut ()).is_ok();
+    let accepted = |order: &Order| first_fit(order).is_ok();
     let soon = (0..3).map(|_| orders::order(random, scale)).find(accepted);
     soon.unwrap_or_else(|| orders::order(random, scale))
 }
@@ -42,7 +42,7 @@ fn order_bytes(random: &mut Random, order: &Order, damaged: u32) -> Vec<u8> {
 
 /// A build's bytes, by first fit or by hand, damaged once in so many times.
 fn build_bytes(random: &mut Random, order: &Order, damaged: u32) -> Vec<u8> {
-    let planned = random.one_in(2).then(|| first_fit(order, &mut ()));
+    let planned = random.one_in(2).then(|| first_fit(order));
     let build = match planned {
         Some(Ok(build)) => build,
         _ => builds::by_hand(random, order),
@@ -112,7 +112,7 @@ fn spoil(random: &mut Random, processors: &mut u32, columns: &mut [Vec<u32>; 4])
 /// An order to plan, and room around what its build takes.
 fn plan(random: &mut Random, scale: &Scale) -> Case {
     let order = orders::order(random, scale);
-    let needed = first_fit(&order, &mut ()).map_or(195, |build| build.bytes().len());
+    let needed = first_fit(&order).map_or(195, |build| build.bytes().len());
     Case::Plan { order: order_bytes(random, &order, 6), room: room(random, needed) }
 }
 

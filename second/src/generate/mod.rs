@@ -2,6 +2,7 @@
 
 pub mod builds;
 pub mod cases;
+pub mod cores;
 pub mod damage;
 pub mod orders;
 pub mod papers;

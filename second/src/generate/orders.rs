@@ -89,7 +89,7 @@ fn brimming(random: &mut Random, scale: &Scale, n: u32) -> Vec<Task> {
 /// With T = C + 1 the window is T times the blocking; each period divides a number close to H.
 fn far(random: &mut Random) -> Vec<Task> {
     let t = random.pick(&[2, 3, 8, 37, 77, 100, 101, 9_901]);
-    let blocking = HORIZON as u32 / t + random.below(2);
+    let blocking = HORIZON / t + random.below(2);
     let task = |t, c| Task { m: 1, t, d: t, c };
     vec![task(t, t - 1), task(Task::PERIOD, blocking + 1)]
 }

@@ -1,4 +1,5 @@
-//! Orders like those of the evaluations in source documents 001 and 003, and the largest ones.
+//! Orders like those of the evaluations in source documents 001 and 003, the largest ones, and orders by the number of
+//! their partitions.
 
 use super::random::Random;
 use crate::order::{Order, Task};
@@ -41,7 +42,7 @@ fn vision(random: &mut Random, n: u32) -> Order {
 }
 
 /// Document 003: T of 10 to 1,000 ms, m up to 0.3, 0.6 or 1 times M, a normalised utilisation of 0.1 to 1.
-fn synthetic(random: &mut Random, processors: u32, n: u32) -> Order {
+pub fn synthetic(random: &mut Random, processors: u32, n: u32) -> Order {
     let most = (processors * random.pick(&[3, 6, 10])).div_ceil(10);
     let utilisation = processors * random.between(1, 10) * 100;
     let tasks = shares(random, utilisation, n).into_iter().map(|share| {
@@ -51,4 +52,17 @@ fn synthetic(random: &mut Random, processors: u32, n: u32) -> Order {
         Task { m, t, d: t, c: c.clamp(1, t) }
     });
     Order { processors, tasks: tasks.collect() }
+}
+
+/// 32 tasks of width 1, of periods of 10 to 200 ms, that about fill so many partitions.
+pub fn filling(random: &mut Random, partitions: u32) -> Order {
+    let mut task = || {
+        let t = random.between(10 * MILLISECOND, 200 * MILLISECOND);
+        let share = match partitions {
+            32 => random.between(550, 950), // no two fit together
+            _ => random.between(1, 48 * partitions),
+        };
+        Task { m: 1, t, d: t, c: (t * share / 1_000).max(1) }
+    };
+    Order { processors: partitions, tasks: (0..32).map(|_| task()).collect() }
 }

@@ -45,6 +45,21 @@ pub fn legal(random: &mut Random, order: &Order, scale: &Scale) -> Vec<Record> {
     records
 }
 
+/// A legal script of so many records, or of as many as the ticks allow: every task again and again, soon after its period.
+pub fn dense(random: &mut Random, order: &Order, records: usize) -> Vec<Record> {
+    let tasks = &order.tasks;
+    let mut next: Vec<u32> = tasks.iter().map(|task| random.below(task.t)).collect();
+    let mut script = Vec::with_capacity(records);
+    while script.len() < records {
+        let soonest = (0..next.len()).min_by_key(|&task| (next[task], task));
+        let Some(task) = soonest.filter(|&task| next[task] <= LAST) else { break };
+        let length = random.between(1, tasks[task].c);
+        script.push(Record { tick: next[task], task, length });
+        next[task] += tasks[task].t + random.below(tasks[task].t / 8 + 1);
+    }
+    script
+}
+
 /// Breaks one rule of a script, or none if it is too short for that.
 pub fn misdraw(random: &mut Random, records: &mut Vec<Record>) {
     let n = records.len() as u32;

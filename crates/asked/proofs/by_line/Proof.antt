@@ -49,13 +49,14 @@ returns c =
     let start = c .before .before .before .before .before in
     let a = start .args in
     let end-is : c .before .before .line-end .result ≡ lineEnd (a .base + lineIn (a .rows .now) (a .count) (a .w) (a .pace .reach) .rest) (lineIn (a .rows .now) (a .count) (a .w) (a .pace .reach) .slope) =
-          c .before .before .line-end .ensures ∙ ap (λ (l : Line). lineEnd (a .base + l .rest) (l .slope)) (c .before .before .before .before .line-below .ensures) in
-    (omega (arith, c .further .ensures),
-    λ s l. elim (decLt s (a .on)) [
-      | yes early ↦ start .pre .5 s early
-      | no late ↦ unmet-to-line (a .rows .now) (a .count) (start .pre .0) (a .base) (a .w) (a .pace .reach) s (omega (arith, start .pre .3)) (omega (arith, c .further .ensures, end-is))
-    ],
-    omega arith)
+    c .before .before .line-end .ensures ∙ ap (λ (l : Line). lineEnd (a .base + l .rest) (l .slope)) (c .before .before .before .before .line-below .ensures) in (
+      omega (arith, c .further .ensures),
+      λ s l. elim (decLt s (a .on)) [
+        | yes early ↦ start .pre .5 s early
+        | no late ↦ unmet-to-line (a .rows .now) (a .count) (start .pre .0) (a .base) (a .w) (a .pace .reach) s (omega (arith, start .pre .3)) (omega (arith, c .further .ensures, end-is))
+      ],
+      omega arith,
+    )
 
 -- src/lib.rt:69:32
 mul-smaller : tie.Need-mul-smaller

@@ -29,7 +29,7 @@ begin-requires c κs = (c .before .pre .0, c .before .pre .2, refl)
 
 -- src/lib.rt:124:5
 loop-holds : tie.Need-loop-holds Inv-loop μ-loop
-loop-holds c = 
+loop-holds c =
     let a = c .before .before .args in
     (seeking (a .rows .now) (a .count) (a .base) (c .begin .last .1 .1 .1 .0) _ (c .begin .result .all) (c .begin .result .next) (a .from) (c .before .before .pre .0 .few) refl (c .before .before .pre .4) (c .begin .ensures .0) (c .begin .ensures .1 .0) (c .begin .ensures .1 .1), omega arith)
 
@@ -76,7 +76,7 @@ unless-past-requires c κs = search needs
 
 -- src/lib.rt:127:13
 returns : tie.Need-returns Inv-loop μ-loop
-returns c = 
+returns c =
     let a = c .before .before .before .before .before .before .before .before .before .args in
     here (c .before .before .before .before .before .before .before .before .before .args .rows .now) (c .before .before .before .before .before .before .before .before .before .args .count) (c .before .before .before .before .before .before .before .before .before .args .base) (c .before .before .before .before .before .before .before .before .before .pre .0) (c .before .before .before .before .before .before .loop .due) (c .before .before .before .before .before .before .loop .all) (c .before .before .before .before .before .before .loop .next) (c .before .before .before .before .before .before .loop .w) (c .before .before .before .before .before .before .loop .inv .0) (a .limit) (omega (arith, c .before .if1 .taken, c .before .before .wide2 .ensures, on-is (c .before .before .before))) (c .unless-past .result) (rw (sym (on-is (c .before .before .before))) (c .unless-past .ensures))
 
@@ -94,7 +94,7 @@ unless-past-requires-2 c κs = search needs
 
 -- src/lib.rt:131:13
 returns-2 : tie.Need-returns-2 Inv-loop μ-loop
-returns-2 c = 
+returns-2 c =
     let a = c .before .before .before .before .before .before .before .before .before .before .before .before .before .args in
     past (askedBy (a .rows .now) (a .count)) (a .base) (a .limit) (c .before .before .before .before .go-ahead .result .to) (c .before .before .before .before .before .before .before .before .before .before .loop .next) (omega (arith, c .before .if2 .taken, c .before .before .before .wide3 .ensures)) (c .before .before .before .before .go-ahead .ensures .1) (c .unless-past2 .result) (c .unless-past2 .ensures)
 
@@ -111,7 +111,7 @@ cast-to c = record { fits = omega (arith, goes-on (c .before)) }
 
 -- src/lib.rt:134:13
 go-on-requires : tie.Need-go-on-requires Inv-loop μ-loop
-go-on-requires c κs = 
+go-on-requires c κs =
     let at = c .before .before .before .before .before .before .before .before .before .before .before .loop .inv .0 in
     (c .before .before .before .before .before .before .before .before .before .before .before .before .before .before .pre .0, omega (arith, goes-on (c .before .before)), record { earlier = c .before .before .before .before .before .before .before .before .before .before .before .loop .w; before = omega (arith, goes-on (c .before .before)); asked = at .asked; places = at .places; dues = at .dues })
 
@@ -129,10 +129,11 @@ loop-less c = omega (arith, goes-on (c .before .before .before))
 
 -- src/lib.rt:124:5
 loop-again : tie.Need-loop-again Inv-loop μ-loop
-loop-again c = 
-    let a = c .before .before .before .before .before .before .before .before .before .before .before .before .before .before .before .args in
-    (seeking (a .rows .now) (a .count) (a .base) (c .go-on .last .1 .1 .1 .1 .0) (c .before .before .before .before .before .before .before .before .before .before .before .before .loop .due) (c .go-on .result .all) (c .go-on .result .next) (c .before .before .before .before .before .before .go-ahead .result .to) (c .before .before .before .before .before .before .before .before .before .before .before .before .before .before .before .pre .0 .few) (c .before .before .before .before .before .before .before .before .before .before .before .before .loop .inv .0 .places) (c .before .before .before .before .before .before .go-ahead .ensures .1) (c .go-on .ensures .0) (c .go-on .ensures .1 .0) (c .go-on .ensures .1 .1),
-    c .before .before .before .before .before .before .go-ahead .ensures .2)
+loop-again c =
+    let a = c .before .before .before .before .before .before .before .before .before .before .before .before .before .before .before .args in (
+      seeking (a .rows .now) (a .count) (a .base) (c .go-on .last .1 .1 .1 .1 .0) (c .before .before .before .before .before .before .before .before .before .before .before .before .loop .due) (c .go-on .result .all) (c .go-on .result .next) (c .before .before .before .before .before .before .go-ahead .result .to) (c .before .before .before .before .before .before .before .before .before .before .before .before .before .before .before .pre .0 .few) (c .before .before .before .before .before .before .before .before .before .before .before .before .loop .inv .0 .places) (c .before .before .before .before .before .before .go-ahead .ensures .1) (c .go-on .ensures .0) (c .go-on .ensures .1 .0) (c .go-on .ensures .1 .1),
+      c .before .before .before .before .before .before .go-ahead .ensures .2,
+    )
 
 -- src/lib.rt:144:17
 wide-requires-4 : tie.Need-wide-requires-4 Inv-loop μ-loop
@@ -144,7 +145,7 @@ unless-past-requires-3 c κs = search needs
 
 -- src/lib.rt:109:1
 returns-3 : tie.Need-returns-3 Inv-loop μ-loop
-returns-3 c = 
+returns-3 c =
     let a = c .before .before .before .before .before .before .args in
     past (askedBy (a .rows .now) (a .count)) (a .base) (a .limit) (c .before .before .before .loop .w) (c .before .before .before .loop .next) (c .before .before .loop-test .left) (c .before .before .before .loop .inv .0 .unmet) (c .unless-past3 .result) (rw (sym (c .before .wide4 .ensures)) (c .unless-past3 .ensures))
 

@@ -7,16 +7,17 @@ use denote.Ref.{now}
 use Rattle.model.specs.declared.answer.Reading.{Reading}
 use Rattle.model.specs.declared.answer.Answer.the-variants.{Done}
 use Rattle.model.specs.Answer.{outputAfter}
-use Rattle.model.specs.Rules.{firstBroken, allHold, roomRules, WithinLimits}
+use Rattle.model.specs.Rules.{firstBroken, roomRules, WithinLimits}
+use Rattle.model.proofs.Rules.{AllPass}
 use Rattle.model.proofs.Output.{after-refused}
 use Rattle.order.specs.Order.{orderAt, orderRules, readOrder}
 use Rattle.order.proofs.Reading.{read-answer, read-rules, read-order, within-limits}
 use Rattle.build.specs.Build.{buildBytes, FieldsFit}
-use Rattle.fit.specs.declared.state.Fitted.{Fitted}
+use Rattle.fit.specs.declared.records.Fitted.{Fitted}
 use Rattle.fit.specs.Recorded.{fittedOf}
 use Rattle.plan.specs.Plan.{sizeOf}
 use Rattle.plan.proofs.Rules.{fit-stop, fit-on, plan-order, plan-fitted}
-use Rattle.plan.proofs.Fields.{fields-fit}
+use Rattle.fit.proofs.Fields.{fitted-fits-fields}
 use Rattle.plan.proofs.plan.Statement.{statement}
 use Rattle.plan.proofs.plan.Tie as tie
 
@@ -30,7 +31,7 @@ read-done w e = ap (λ (r : Reading). r .answer) (sym (w .read-order .ensures)) 
 order-same : (w : tie.After-read-order) {count : ℕ} → w .read-order .result .answer ≡ Done count → w .read-order .result .order ≡ orderAt (S w)
 order-same w e = ap (λ (r : Reading). r .order) (w .read-order .ensures) ∙ read-order (S w) (read-done w e)
 
-rules : (w : tie.After-read-order) {count : ℕ} → w .read-order .result .answer ≡ Done count → allHold (orderRules (S w))
+rules : (w : tie.After-read-order) {count : ℕ} → w .read-order .result .answer ≡ Done count → AllPass (orderRules (S w))
 rules w e = read-rules (S w) (read-done w e)
 
 -- what first fit gave it
@@ -69,7 +70,7 @@ returns-2 c =
     let out = now (w .before .before .before .args .out) in
     let refused = ap (λ (x : Fitted). x .answer) (sym (fitted-same f)) ∙ c .before .placed .given .1 in
     record {
-      answered = sym (plan-fitted (S w) (length out) (rules w (f .before .before .enum-told .given .1)) ∙ fit-stop _ (fittedOf (orderAt (S w))) (length out) refused);
+      answered = sym (plan-fitted (S w) (length out) (rules w (f .before .before .enum-told .given .1)) ∙ fit-stop _ _ (fittedOf (orderAt (S w))) (length out) refused);
       written = sym (after-refused _ _ out);
     }
 
@@ -82,7 +83,7 @@ put-build-requires c κs =
     let w = f .before .before .before .before in
     let limits = within-limits (S w) (rules w (f .before .before .enum-told .given .1)) in
     let done = ap (λ (x : Fitted). x .answer) (sym (fitted-same f)) ∙ c .before .before .enum-told2 .given .1 in
-    subst (λ (x : Fitted). FieldsFit (x .build)) (sym (fitted-same f)) (fields-fit (orderAt (S w)) limits done)
+    subst (λ (x : Fitted). FieldsFit (x .build)) (sym (fitted-same f)) (fitted-fits-fields (orderAt (S w)) limits)
 
 same-length : tie.Need-same-length
 same-length c = search needs
@@ -95,7 +96,7 @@ returns-3 c =
     let out = now (w .before .before .before .args .out) in
     let same = fitted-same f in
     let done = ap (λ (x : Fitted). x .answer) (sym same) ∙ c .before .before .before .before .before .enum-told2 .given .1 in
-    let answer = plan-fitted (S w) (length out) (rules w (f .before .before .enum-told .given .1)) ∙ fit-on _ (fittedOf (orderAt (S w))) (length out) done in
+    let answer = plan-fitted (S w) (length out) (rules w (f .before .before .enum-told .given .1)) ∙ fit-on _ _ (fittedOf (orderAt (S w))) (length out) done in
     record {
       answered = put .ensures .answered ∙ ap (λ (x : Fitted). firstBroken (sizeOf (x .build)) (roomRules (sizeOf (x .build)) (length out))) same ∙ sym answer;
       written = put .ensures .written ∙ ap (λ (x : Fitted). outputAfter (put .result) (buildBytes (x .build)) out) same;

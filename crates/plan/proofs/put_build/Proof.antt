@@ -4,7 +4,8 @@ use native.Mathlib.Omega.{arith}
 use lib.ListN.{length}
 use denote.Ref.{now}
 use Rattle.model.specs.declared.answer.Answer.the-variants.{Done}
-use Rattle.model.specs.declared.answer.Refusal.the-variants.{Output}
+use Rattle.model.specs.declared.answer.Refusal.the-variants.{OfCall}
+use Rattle.model.specs.declared.answer.CallCause.the-variants.{Output}
 use Rattle.model.proofs.Output.{after-done, after-refused}
 use Rattle.model.proofs.Rules.{room-stop, room-on}
 use Rattle.build.specs.Build.{buildBytes}
@@ -26,7 +27,7 @@ returns c =
     let size = c .before .bytes .ensures in
     record {
       answered = sym (room-stop _ _ (length (now (a .out))) (rw size at (c .if1 .taken)));
-      written = sym (after-refused Output (buildBytes (a .build)) (now (a .out)));
+      written = sym (after-refused (OfCall Output) (buildBytes (a .build)) (now (a .out)));
     }
 
 write-build-requires : tie.Need-write-build-requires
@@ -34,8 +35,8 @@ write-build-requires c κs =
     let w = c .before in
     (w .before .before .before .before .before .pre, rw (w .before .bytes .ensures) at (w .if1 .left))
 
-cast-t11 : tie.Need-cast-t11
-cast-t11 c = search needs
+cast-t12 : tie.Need-cast-t12
+cast-t12 c = search needs
 
 same-length : tie.Need-same-length
 same-length c = search needs
@@ -59,6 +60,6 @@ put-build-spec =
     bytes-requires
     returns
     write-build-requires
-    cast-t11
+    cast-t12
     same-length
     returns-2)

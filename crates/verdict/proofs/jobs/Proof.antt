@@ -143,7 +143,7 @@ failed-requires c κs = search needs
 -- src/lib.rt:65:13
 returns : tie.Need-returns Inv-loop μ-loop
 unfolding cost
-returns c = 
+returns c =
     let none = sym (answer (c .before .before .before)) ∙ c .before .enum-told .given .1 in
     failed-as (c .before .before .before .before .before .before .before .before .before .before .args .rows .now) (c .before .before .before .before .before .before .before .before .before .before .args .rank) (c .before .before .before .before .before .before .before .before .before .before .pre .0) (c .before .before .before .before .before .before .before .before .before .before .args .blocking) _ (unstarted (work (c .before .before .before .before .before .before .before .before .before .before)) (grows (c .before .before .before .before .before .before .before .before .before .before)) (c .before .before .before .before .before .before .before .before .before .before .args .blocking) (own (c .before .before .before .before .before .before .before .before .before .before)) (sized-row (c .before .before .before .before .before .before .before .before .before .before)) (c .before .before .before .before .before .before .loop .inv .0 .0) (c .before .before .before .before .before .before .loop .base) (c .before .before .before .before .before .before .loop .release) (c .before .before .before .before .before .before .loop .begin) (c .before .before .before .before .before .before .loop .worst) (c .before .before .before .before .before .before .loop .inv .0 .1) (c .before .before .before .before .before .loop-test .taken) none) (omega (arith, sizes (c .before .before .before .before .before .before .before .before .before .before), c .before .before .before .before .before .loop-test .taken)) (asked-unmet (c .before .before .before .before .before .before .before .before .before .before .args .rows .now) (c .before .before .before .before .before .before .before .before .before .before .args .rank) (c .before .before .before .before .before .before .before .before .before .before .pre .0) (c .before .before .before .before .before .before .before .before .before .before .args .blocking) _ (unstarted-open (work (c .before .before .before .before .before .before .before .before .before .before)) (grows (c .before .before .before .before .before .before .before .before .before .before)) (c .before .before .before .before .before .before .before .before .before .before .args .blocking) (own (c .before .before .before .before .before .before .before .before .before .before)) (sized-row (c .before .before .before .before .before .before .before .before .before .before)) (c .before .before .before .before .before .before .loop .inv .0 .0) (c .before .before .before .before .before .before .loop .base) (c .before .before .before .before .before .before .loop .release) (c .before .before .before .before .before .before .loop .begin) (c .before .before .before .before .before .before .loop .worst) (c .before .before .before .before .before .before .loop .inv .0 .1) (c .before .before .before .before .before .loop-test .taken) none)) (c .failed .result) (c .failed .ensures)
 
@@ -190,11 +190,18 @@ smaller-requires c κs = search needs
 -- src/lib.rt:72:34
 closing-requires : tie.Need-closing-requires Inv-loop μ-loop
 unfolding cost
-closing-requires c κs = 
+closing-requires c κs =
     let sizes′ = sizes (c .before .before .before .before .before .before .before .before .before .before .before .before) in
-    let early = c .before .before .before .before .before .before .before .loop-test .taken in
-    (fewer (c .before .before .before .before .before .before .before .before .before .before .before .before), omega (arith, small (c .before .before .before .before .before .before .before), sizes′, early), omega (arith, sizes′), omega (arith, in-time (c .before .before .before), sizes′, early), omega (arith, c .smaller .ensures, sizes′), omega (arith, c .smaller .ensures),
-    unmet-end (work (c .before .before .before .before .before .before .before .before .before .before .before .before)) (grows (c .before .before .before .before .before .before .before .before .before .before .before .before)) (c .before .before .before .before .before .before .before .before .before .before .before .before .args .blocking) (own (c .before .before .before .before .before .before .before .before .before .before .before .before)) (sized-row (c .before .before .before .before .before .before .before .before .before .before .before .before)) (c .before .before .before .before .before .before .before .before .loop .inv .0 .0) (c .before .before .before .before .before .before .before .before .loop .base) (c .before .before .before .before .before .before .before .before .loop .release) (c .before .before .before .before .before .before .before .before .loop .begin) (c .before .before .before .before .before .before .before .before .loop .worst) (c .before .before .before .before .before .before .before .before .loop .inv .0 .1) (c .before .before .before .before .before .before .before .loop-test .taken) (c .before .before .before .found .given .0 .0) (at-start (c .before .before .before)), met-end (work (c .before .before .before .before .before .before .before .before .before .before .before .before)) (grows (c .before .before .before .before .before .before .before .before .before .before .before .before)) (c .before .before .before .before .before .before .before .before .before .before .before .before .args .blocking) (own (c .before .before .before .before .before .before .before .before .before .before .before .before)) (sized-row (c .before .before .before .before .before .before .before .before .before .before .before .before)) (c .before .before .before .before .before .before .before .before .loop .inv .0 .0) (c .before .before .before .before .before .before .before .before .loop .base) (c .before .before .before .before .before .before .before .before .loop .release) (c .before .before .before .before .before .before .before .before .loop .begin) (c .before .before .before .before .before .before .before .before .loop .worst) (c .before .before .before .before .before .before .before .before .loop .inv .0 .1) (c .before .before .before .before .before .before .before .loop-test .taken) (c .before .before .before .found .given .0 .0) (at-start (c .before .before .before)) (c .before .before .before .before .before .met .result .next) (quiet (c .before .before .before)))
+    let early = c .before .before .before .before .before .before .before .loop-test .taken in (
+      fewer (c .before .before .before .before .before .before .before .before .before .before .before .before),
+      omega (arith, small (c .before .before .before .before .before .before .before), sizes′, early),
+      omega (arith, sizes′),
+      omega (arith, in-time (c .before .before .before), sizes′, early),
+      omega (arith, c .smaller .ensures, sizes′),
+      omega (arith, c .smaller .ensures),
+      unmet-end (work (c .before .before .before .before .before .before .before .before .before .before .before .before)) (grows (c .before .before .before .before .before .before .before .before .before .before .before .before)) (c .before .before .before .before .before .before .before .before .before .before .before .before .args .blocking) (own (c .before .before .before .before .before .before .before .before .before .before .before .before)) (sized-row (c .before .before .before .before .before .before .before .before .before .before .before .before)) (c .before .before .before .before .before .before .before .before .loop .inv .0 .0) (c .before .before .before .before .before .before .before .before .loop .base) (c .before .before .before .before .before .before .before .before .loop .release) (c .before .before .before .before .before .before .before .before .loop .begin) (c .before .before .before .before .before .before .before .before .loop .worst) (c .before .before .before .before .before .before .before .before .loop .inv .0 .1) (c .before .before .before .before .before .before .before .loop-test .taken) (c .before .before .before .found .given .0 .0) (at-start (c .before .before .before)),
+      met-end (work (c .before .before .before .before .before .before .before .before .before .before .before .before)) (grows (c .before .before .before .before .before .before .before .before .before .before .before .before)) (c .before .before .before .before .before .before .before .before .before .before .before .before .args .blocking) (own (c .before .before .before .before .before .before .before .before .before .before .before .before)) (sized-row (c .before .before .before .before .before .before .before .before .before .before .before .before)) (c .before .before .before .before .before .before .before .before .loop .inv .0 .0) (c .before .before .before .before .before .before .before .before .loop .base) (c .before .before .before .before .before .before .before .before .loop .release) (c .before .before .before .before .before .before .before .before .loop .begin) (c .before .before .before .before .before .before .before .before .loop .worst) (c .before .before .before .before .before .before .before .before .loop .inv .0 .1) (c .before .before .before .before .before .before .before .loop-test .taken) (c .before .before .before .found .given .0 .0) (at-start (c .before .before .before)) (c .before .before .before .before .before .met .result .next) (quiet (c .before .before .before)),
+    )
 
 -- what the search for the window's end answers
 ending : (c : tie.After-closing Inv-loop μ-loop) →
@@ -217,7 +224,7 @@ cast-t33 c = record { fits = omega (arith, limit-near (c .before)) }
 -- src/lib.rt:73:13
 returns-2 : tie.Need-returns-2 Inv-loop μ-loop
 unfolding cost
-returns-2 c = 
+returns-2 c =
     let last = c .before .last .given .0 .0 in
     let at-last = sym (ending (c .before .before .before)) ∙ c .before .last .given .1 in
     let start = c .before .before .before .before .before .before .before .found .given .0 .0 in
@@ -234,10 +241,13 @@ loop-less c = omega (arith, sizes (c .before .before .before .before .before .be
 -- src/lib.rt:60:5
 loop-again : tie.Need-loop-again Inv-loop μ-loop
 unfolding cost
-loop-again c = 
-    ((c .before .before .before .before .before .before .before .before .before .before .before .loop .inv .0 .0 + 1,
-    rw (c .before .before .before .before .larger .ensures, c .before .before .before .smaller .ensures) (going-on (work (c .before .before .before .before .before .before .before .before .before .before .before .before .before .before .before)) (grows (c .before .before .before .before .before .before .before .before .before .before .before .before .before .before .before)) (c .before .before .before .before .before .before .before .before .before .before .before .before .before .before .before .args .blocking) (own (c .before .before .before .before .before .before .before .before .before .before .before .before .before .before .before)) (sized-row (c .before .before .before .before .before .before .before .before .before .before .before .before .before .before .before)) (c .before .before .before .before .before .before .before .before .before .before .before .loop .inv .0 .0) (c .before .before .before .before .before .before .before .before .before .before .before .loop .base) (c .before .before .before .before .before .before .before .before .before .before .before .loop .release) (c .before .before .before .before .before .before .before .before .before .before .before .loop .begin) (c .before .before .before .before .before .before .before .before .before .before .before .loop .worst) (c .before .before .before .before .before .before .before .before .before .before .before .loop .inv .0 .1) (c .before .before .before .before .before .before .before .before .before .before .loop-test .taken) (c .before .before .before .before .before .before .found .given .0 .0) (at-start (c .before .before .before .before .before .before)) (sym (ending (c .before .before)) ∙ c .enum-told2 .given .1))),
-    omega (arith, c .before .before .before .smaller .ensures))
+loop-again c = (
+  (
+    c .before .before .before .before .before .before .before .before .before .before .before .loop .inv .0 .0 + 1,
+    rw (c .before .before .before .before .larger .ensures, c .before .before .before .smaller .ensures) (going-on (work (c .before .before .before .before .before .before .before .before .before .before .before .before .before .before .before)) (grows (c .before .before .before .before .before .before .before .before .before .before .before .before .before .before .before)) (c .before .before .before .before .before .before .before .before .before .before .before .before .before .before .before .args .blocking) (own (c .before .before .before .before .before .before .before .before .before .before .before .before .before .before .before)) (sized-row (c .before .before .before .before .before .before .before .before .before .before .before .before .before .before .before)) (c .before .before .before .before .before .before .before .before .before .before .before .loop .inv .0 .0) (c .before .before .before .before .before .before .before .before .before .before .before .loop .base) (c .before .before .before .before .before .before .before .before .before .before .before .loop .release) (c .before .before .before .before .before .before .before .before .before .before .before .loop .begin) (c .before .before .before .before .before .before .before .before .before .before .before .loop .worst) (c .before .before .before .before .before .before .before .before .before .before .before .loop .inv .0 .1) (c .before .before .before .before .before .before .before .before .before .before .loop-test .taken) (c .before .before .before .before .before .before .found .given .0 .0) (at-start (c .before .before .before .before .before .before)) (sym (ending (c .before .before)) ∙ c .enum-told2 .given .1)),
+  ),
+  omega (arith, c .before .before .before .smaller .ensures),
+)
 
 -- src/lib.rt:80:5
 failed-requires-2 : tie.Need-failed-requires-2 Inv-loop μ-loop
@@ -245,7 +255,7 @@ failed-requires-2 c κs = search needs
 
 -- src/lib.rt:49:1
 returns-3 : tie.Need-returns-3 Inv-loop μ-loop
-returns-3 c = 
+returns-3 c =
     let done = c .before .before .loop .inv .0 .1 .opened in
     failed-as (c .before .before .before .before .before .before .args .rows .now) (c .before .before .before .before .before .before .args .rank) (c .before .before .before .before .before .before .pre .0) (c .before .before .before .before .before .before .args .blocking) horizon (open-fails (work (c .before .before .before .before .before .before)) (grows (c .before .before .before .before .before .before)) (c .before .before .before .before .before .before .args .blocking) (own (c .before .before .before .before .before .before)) (sized-row (c .before .before .before .before .before .before)) (c .before .before .loop .release) (c .before .loop-test .left) done) (omega arith) (open-unmet (c .before .before .before .before .before .before .args .rows .now) (c .before .before .before .before .before .before .args .rank) (c .before .before .before .before .before .before .pre .0) (c .before .before .before .before .before .before .args .blocking) horizon (omega arith) (λ s x y h. done s x (omega (arith, c .before .loop-test .left)) h)) (c .failed2 .result) (c .failed2 .ensures)
 

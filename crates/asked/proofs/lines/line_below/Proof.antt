@@ -91,9 +91,10 @@ small c =
     let start = c .before .before .before .before .before .before in
     let a = start .args in
     let n = loop .r + 1 in
-    let fit = fit-fewer (a .rows .now) (a .count) n (omega (arith, c .before .before .before .before .loop-test .taken)) (start .pre .0) in
-    (omega (arith, asked-most (a .rows .now) n fit (a .w) (start .pre .1), fit .few, line-rest (a .rows .now) (a .w) (a .reach) n, ap (λ (x : Line). x .rest) (more c)),
-    omega (arith, fit .few, line-slope (a .rows .now) (a .w) (a .reach) n fit, ap (λ (x : Line). x .slope) (more c)))
+    let fit = fit-fewer (a .rows .now) (a .count) n (omega (arith, c .before .before .before .before .loop-test .taken)) (start .pre .0) in (
+      omega (arith, asked-most (a .rows .now) n fit (a .w) (start .pre .1), fit .few, line-rest (a .rows .now) (a .w) (a .reach) n, ap (λ (x : Line). x .rest) (more c)),
+      omega (arith, fit .few, line-slope (a .rows .now) (a .w) (a .reach) n fit, ap (λ (x : Line). x .slope) (more c)),
+    )
 
 -- src/lines.rt:44:16
 add-rest : tie.Need-add-rest Inv-loop μ-loop

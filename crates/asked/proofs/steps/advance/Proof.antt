@@ -105,7 +105,7 @@ all-small c =
     let start = c .before .before .before .before in
     let a = start .args in
     let few : (i : ℕ) → i < c .before .before .before .loop .r → only (leb (getD (a .due .now) i 0) (a .w)) 1 * costAt (a .rows .now) i ≤ 1_000_000 =
-          λ i l. omega (arith, mul-le-mul (only-le (leb (getD (a .due .now) i 0) (a .w)) 1) (cost-most (a .rows .now) (a .count) (start .pre .0) i (omega (arith, c .before .before .before .loop .inv .0)))) in
+    λ i l. omega (arith, mul-le-mul (only-le (leb (getD (a .due .now) i 0) (a .w)) 1) (cost-most (a .rows .now) (a .count) (start .pre .0) i (omega (arith, c .before .before .before .loop .inv .0)))) in
     omega (arith, c .before .before .before .loop .inv .2, sum-most (λ i. only (leb (getD (a .due .now) i 0) (a .w)) 1 * costAt (a .rows .now) i) 1_000_000 (c .before .before .before .loop .r) few)
 
 -- src/steps.rt:73:29
@@ -158,16 +158,17 @@ loop-less c = search needs
 
 -- src/steps.rt:71:5
 loop-again : tie.Need-loop-again Inv-loop μ-loop
-loop-again c = 
+loop-again c =
     let start = c .before .before .before .before .before .before .before .before in
     let a = start .args in
     let loop = c .before .before .before .before .before .before .before .loop in
     let f = onward (a .rows .now) (a .due .now) (a .w) in
-    let g : ℕ → ℕ = λ i. only (leb (getD (a .due .now) i 0) (a .w)) 1 * costAt (a .rows .now) i in
-    (omega (arith, c .before .before .before .before .before .before .loop-test .taken),
-    rw (then-is (c .before .before .before .before), loop .inv .1) (overlaid-more f (a .due .now) (loop .r) (omega (arith, start .pre .1 .places, c .before .before .before .before .before .before .loop-test .taken, start .pre .0 .few))),
-    rw (loop .inv .2, come-is (c .before .before .before .before)) (sym (sum-more g (loop .r))),
-    rw (c .smaller .ensures, then-is (c .before .before .before .before), loop .inv .3) (sym (least-more far f (loop .r))))
+    let g : ℕ → ℕ = λ i. only (leb (getD (a .due .now) i 0) (a .w)) 1 * costAt (a .rows .now) i in (
+      omega (arith, c .before .before .before .before .before .before .loop-test .taken),
+      rw (then-is (c .before .before .before .before), loop .inv .1) (overlaid-more f (a .due .now) (loop .r) (omega (arith, start .pre .1 .places, c .before .before .before .before .before .before .loop-test .taken, start .pre .0 .few))),
+      rw (loop .inv .2, come-is (c .before .before .before .before)) (sym (sum-more g (loop .r))),
+      rw (c .smaller .ensures, then-is (c .before .before .before .before), loop .inv .3) (sym (least-more far f (loop .r))),
+    )
 
 -- src/steps.rt:80:14
 wide-requires : tie.Need-wide-requires Inv-loop μ-loop
@@ -175,13 +176,14 @@ wide-requires c κs = search needs
 
 -- src/steps.rt:62:1
 returns : tie.Need-returns Inv-loop μ-loop
-returns c = 
+returns c =
     let a = c .before .before .before .args in
     let loop = c .before .before .loop in
     let f = onward (a .rows .now) (a .due .now) (a .w) in
-    let all : loop .r ≡ a .count = le-antisymm (loop .inv .0) (c .before .loop-test .left) in
-    (c .wide .ensures ∙ loop .inv .2 ∙ ap (sum (λ i. only (leb (getD (a .due .now) i 0) (a .w)) 1 * costAt (a .rows .now) i)) all,
-    (loop .inv .3 ∙ ap (least far f) all, loop .inv .1 ∙ ap (λ (k : ℕ). overlaid f k (a .due .now)) all))
+    let all : loop .r ≡ a .count = le-antisymm (loop .inv .0) (c .before .loop-test .left) in (
+      c .wide .ensures ∙ loop .inv .2 ∙ ap (sum (λ i. only (leb (getD (a .due .now) i 0) (a .w)) 1 * costAt (a .rows .now) i)) all,
+      (loop .inv .3 ∙ ap (least far f) all, loop .inv .1 ∙ ap (λ (k : ℕ). overlaid f k (a .due .now)) all),
+    )
 
 pub advance-spec : {M : Type 1} → statement M
 advance-spec =

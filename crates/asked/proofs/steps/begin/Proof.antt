@@ -141,11 +141,12 @@ loop-again c =
     let a = start .args in
     let loop = c .before .before .before .before .before .before .before .before .loop in
     let f = dueAfter (a .rows .now) (a .w) in
-    let then-is : c .before .before .before .before .before .releases-by .result * wordAt (a .rows .now) (loop .r) 0 ≡ f (loop .r) = ap (λ (k : ℕ). k * wordAt (a .rows .now) (loop .r) 0) (c .before .before .before .before .before .releases-by .ensures) in
-    (omega (arith, c .before .before .before .before .before .before .before .loop-test .taken),
-    rw (loop .inv .1, then-is) (overlaid-more f (a .due .now) (loop .r) (omega (arith, start .pre .2, c .before .before .before .before .before .before .before .loop-test .taken, start .pre .0 .few))),
-    all-is (c .before),
-    rw (c .smaller .ensures, loop .inv .3, then-is) (sym (least-more far f (loop .r))))
+    let then-is : c .before .before .before .before .before .releases-by .result * wordAt (a .rows .now) (loop .r) 0 ≡ f (loop .r) = ap (λ (k : ℕ). k * wordAt (a .rows .now) (loop .r) 0) (c .before .before .before .before .before .releases-by .ensures) in (
+      omega (arith, c .before .before .before .before .before .before .before .loop-test .taken),
+      rw (loop .inv .1, then-is) (overlaid-more f (a .due .now) (loop .r) (omega (arith, start .pre .2, c .before .before .before .before .before .before .before .loop-test .taken, start .pre .0 .few))),
+      all-is (c .before),
+      rw (c .smaller .ensures, loop .inv .3, then-is) (sym (least-more far f (loop .r))),
+    )
 
 -- src/steps.rt:34:1
 returns : tie.Need-returns Inv-loop μ-loop

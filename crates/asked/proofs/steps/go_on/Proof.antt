@@ -22,9 +22,10 @@ use Rattle.asked.proofs.steps.begin.Reads as begin-reads
 advance-requires : tie.Need-advance-requires
 advance-requires c κs =
     let a = c .before .args in
-    let d = c .before .pre .2 in
-    (c .before .pre .0,
-    record { places = d .places; near = λ r l. omega (arith, d .dues r l, due-near (a .rows .now) (a .count) (c .before .pre .0) (d .earlier) r l, d .before, c .before .pre .1) })
+    let d = c .before .pre .2 in (
+      c .before .pre .0,
+      record { places = d .places; near = λ r l. omega (arith, d .dues r l, due-near (a .rows .now) (a .count) (c .before .pre .0) (d .earlier) r l, d .before, c .before .pre .1) },
+    )
 
 -- one release of each was enough
 right : (c : tie.Then1) → let a = c .before .before .before .before .args in let d = c .before .before .before .before .pre .2 in (a .w < least far (onward (a .rows .now) (a .due .now) (a .w)) (a .count))
@@ -51,29 +52,37 @@ returns c =
     let a = start .args in
     let d = start .pre .2 in
     let same : (r : ℕ) → r < a .count → onward (a .rows .now) (a .due .now) (a .w) r ≡ dueAfter (a .rows .now) (a .w) r =
-          onward-right (a .rows .now) (a .count) (start .pre .0) (a .due .now) (d .earlier) (a .w) (d .before) (d .dues) (right (c .before)) in
-    (all-is (c .before),
-    (c .before .before .before .advance .ensures .1 .0 ∙ least-same far _ _ (a .count) same,
-    c .before .before .before .advance .ensures .1 .1 ∙ overlaid-same _ _ (a .count) (a .due .now) same))
+    onward-right (a .rows .now) (a .count) (start .pre .0) (a .due .now) (d .earlier) (a .w) (d .before) (d .dues) (right (c .before)) in (
+      all-is (c .before),
+      (
+        c .before .before .before .advance .ensures .1 .0 ∙ least-same far _ _ (a .count) same,
+        c .before .before .before .advance .ensures .1 .1 ∙ overlaid-same _ _ (a .count) (a .due .now) same,
+      ),
+    )
 
 -- src/steps.rt:99:5
 begin-requires : tie.Need-begin-requires
 begin-requires c κs =
     let start = c .before .before .before .before .before in
     let a = start .args in
-    let d = start .pre .2 in
-    (start .pre .0, start .pre .1,
-    ap (λ (xs : List ℕ). length xs) (c .before .before .before .advance .ensures .1 .1) ∙ length-overlaid (onward (a .rows .now) (a .due .now) (a .w)) (a .due .now) (a .count) (omega (arith, d .places, start .pre .0 .few)) ∙ d .places)
+    let d = start .pre .2 in (
+      start .pre .0,
+      start .pre .1,
+      ap (λ (xs : List ℕ). length xs) (c .before .before .before .advance .ensures .1 .1) ∙ length-overlaid (onward (a .rows .now) (a .due .now) (a .w)) (a .due .now) (a .count) (omega (arith, d .places, start .pre .0 .few)) ∙ d .places,
+    )
 
 -- src/steps.rt:86:1
 returns-2 : tie.Need-returns-2
 returns-2 c =
-    let a = c .before .before .before .before .before .before .args in
-    (c .begin .ensures .0,
-    (c .begin .ensures .1 .0,
-    c .begin .ensures .1 .1
-    ∙ ap (overlaid (dueAfter (a .rows .now) (a .w)) (a .count)) (c .before .before .before .before .advance .ensures .1 .1)
-    ∙ overlaid-twice (dueAfter (a .rows .now) (a .w)) (onward (a .rows .now) (a .due .now) (a .w)) (a .count) (a .due .now)))
+    let a = c .before .before .before .before .before .before .args in (
+      c .begin .ensures .0,
+      (
+        c .begin .ensures .1 .0,
+        c .begin .ensures .1 .1
+            ∙ ap (overlaid (dueAfter (a .rows .now) (a .w)) (a .count)) (c .before .before .before .before .advance .ensures .1 .1)
+            ∙ overlaid-twice (dueAfter (a .rows .now) (a .w)) (onward (a .rows .now) (a .due .now) (a .w)) (a .count) (a .due .now),
+      ),
+    )
 
 pub go-on-spec : {M : Type 1} → statement M
 go-on-spec = tie.close (tie.spec advance-requires add-t9 returns begin-requires returns-2)

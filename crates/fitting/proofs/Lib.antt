@@ -1,0 +1,5 @@
+pub mod Put
+pub mod Accepts
+pub mod Standing
+pub mod Turning
+pub mod Claims

@@ -1,0 +1,9 @@
+pub mod Records
+pub mod Keys
+pub mod Rules
+pub mod Numbers
+pub mod Scan
+pub mod Held
+pub mod Tells
+pub mod Accepted
+pub mod Bytes

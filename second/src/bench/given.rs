@@ -1,0 +1,104 @@
+//! What the operations are given.
+
+use super::Operation;
+use crate::generate::random::Random;
+use crate::generate::{builds, papers, scripts, slow, Scale};
+use crate::order::Order;
+use crate::script::{self, Record};
+use crate::{check, counted, speed};
+
+/// An order with its build, none if it is refused; the build with all tasks in one partition; and a legal script.
+pub struct Given {
+    pub order: Vec<u8>,
+    pub build: Vec<u8>,
+    pub in_one: Vec<u8>,
+    pub script: Vec<u8>,
+}
+
+impl Given {
+    fn new(order: &Order, script: &[Record]) -> Given {
+        let (bytes, mut build) = (order.bytes(), vec![0; 195]);
+        let planned = speed::plan(&bytes, &mut build);
+        build.truncate(planned.count as usize);
+        let in_one = builds::all_in_one(order).bytes();
+        Given { order: bytes, build, in_one, script: script::bytes(script) }
+    }
+
+    pub fn accepted(&self) -> bool {
+        !self.build.is_empty()
+    }
+
+    pub fn records(&self) -> usize {
+        self.script.len() / 6
+    }
+
+    /// The library's terms in an operation, as its copy counts them.
+    pub fn terms(&self, operation: Operation) -> u64 {
+        let checked = |order: &Order, build: &[u8]| {
+            let build = check::read(build, order).expect("a build");
+            counted::check(order, &build).1
+        };
+        let order = Order::read(&self.order).expect("an order");
+        match operation {
+            Operation::Plan => counted::plan(&order).1,
+            Operation::CheckInOne => checked(&order, &self.in_one),
+            Operation::Check | Operation::Run => checked(&order, &self.build),
+        }
+    }
+
+    fn partitions(&self) -> u8 {
+        self.build.get(2).map_or(0, |byte| byte & 127)
+    }
+}
+
+/// So many orders of a family of the source documents, each with the longest of twenty legal scripts.
+pub fn family(draw: fn(&mut Random) -> Order, orders: u32) -> Vec<Given> {
+    let mut random = Random::new(1);
+    let mut given = || {
+        let order = draw(&mut random);
+        let mut script = || scripts::legal(&mut random, &order, &Scale::FULL);
+        let longest = (0..20).map(|_| script()).max_by_key(Vec::len);
+        Given::new(&order, &longest.unwrap_or_default())
+    };
+    (0..orders).map(|_| given()).collect()
+}
+
+/// So many orders of 32 tasks that first fit puts into so many partitions, with scripts of so many records.
+pub fn filling(partitions: u32, records: usize, orders: usize) -> Vec<Given> {
+    let mut random = Random::new(2);
+    let mut given = || {
+        let order = papers::filling(&mut random, partitions);
+        Given::new(&order, &scripts::dense(&mut random, &order, records))
+    };
+    let mut all = Vec::new();
+    while all.len() < orders {
+        let given = given();
+        if u32::from(given.partitions()) == partitions {
+            all.push(given);
+        }
+    }
+    all
+}
+
+/// So many orders of n tasks on 16 processors, as document 003 draws them, that first fit accepts.
+pub fn growing(n: u32, orders: usize) -> Vec<Given> {
+    let mut random = Random::new(3);
+    let mut all = Vec::new();
+    while all.len() < orders {
+        let given = Given::new(&papers::synthetic(&mut random, 16, n), &[]);
+        if given.accepted() {
+            all.push(given);
+        }
+    }
+    all
+}
+
+/// The orders of slow.txt, each with a legal script.
+pub fn slow_ones() -> Vec<Given> {
+    let mut random = Random::new(4);
+    let given = |order: &Order| {
+        let script = scripts::legal(&mut random, order, &Scale::FULL);
+        Given::new(order, &script)
+    };
+    slow::known().iter().map(given).collect()
+}

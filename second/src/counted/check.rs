@@ -1,0 +1,67 @@
+//! The check's rules of windows and responses, for a build whose other rules hold.
+
+use super::trial::{Known, Line};
+use super::verdict::has_window;
+use crate::answer::{Cause, Refusal};
+use crate::build::Build;
+use crate::order::Order;
+
+/// What 27 to 30 come to, task by task, and the terms that it took.
+pub fn check(order: &Order, build: &Build) -> (Result<(), Refusal>, u64) {
+    let mut terms = 0;
+    (responses(order, build, &mut terms), terms)
+}
+
+/// The terms of a check that finds every recorded response right, up to the first member that does not pass.
+pub fn most_terms(order: &Order, build: &Build) -> u64 {
+    let mut terms = 0;
+    let tests = Tests::new(order, build, &mut terms);
+    let failing = (0..build.seats.len()).find(|&i| tests.known.worsts[i] == 0);
+    failing.map(|i| tests.why_not(build, i, &mut terms));
+    terms
+}
+
+/// Every member's test, partition by partition in rank order.
+struct Tests {
+    lines: Vec<Line>,
+    known: Known,
+}
+
+impl Tests {
+    fn new(order: &Order, build: &Build, terms: &mut u64) -> Tests {
+        let mut lines = vec![Line::default(); build.partitions.len()];
+        for (i, seat) in build.seats.iter().enumerate() {
+            lines[seat.partition as usize].put_in(order, i);
+        }
+        let mut known = Known::default();
+        for line in &lines {
+            for rank in 0..line.rows.len() {
+                line.passes(rank, &mut known, terms);
+            }
+        }
+        Tests { lines, known }
+    }
+
+    /// Whether a task that does not pass has no window, or is late.
+    fn why_not(&self, build: &Build, i: usize, terms: &mut u64) -> Cause {
+        let line = &self.lines[build.seats[i].partition as usize];
+        let rank = line.numbers.iter().position(|&number| number == i).unwrap_or(0);
+        let from = self.known.lasts[i];
+        match has_window(&line.rows, rank, line.blocking(rank), from, terms) {
+            true => Cause::Late,
+            false => Cause::Window,
+        }
+    }
+}
+
+fn responses(order: &Order, build: &Build, terms: &mut u64) -> Result<(), Refusal> {
+    let tests = Tests::new(order, build, terms);
+    for (i, seat) in build.seats.iter().enumerate() {
+        let worst = tests.known.worsts[i];
+        if worst == 0 {
+            return Err(tests.why_not(build, i, terms).at(i));
+        }
+        Cause::Response.unless_at(i, worst == seat.response)?;
+    }
+    Ok(())
+}

@@ -1,0 +1,47 @@
+//! A planner written for speed, from the definition: plan, check and run with all refusals.
+//!
+//! It is the third side of the benchmarks: flat arrays, one pass over the bytes, nothing read or sorted twice, the
+//! waiting members of a partition as one word. What it leaves out is said in docs/BENCHMARKS.md: it keeps no start of a
+//! trial for the next one.
+
+mod check;
+mod members;
+mod order;
+mod plan;
+mod run;
+
+pub use check::check;
+pub use plan::plan;
+pub use run::run;
+
+use crate::answer::Answer;
+use crate::order::Order;
+use crate::program::Program;
+
+/// The most tasks, and the most partitions that can have one.
+const MOST: usize = 32;
+
+/// The program written for speed; orders are read and written by the second program.
+pub struct Speed;
+
+impl Program for Speed {
+    fn read_order(&self, order: &[u8], numbers: &mut [u32; Order::NUMBERS]) -> Answer {
+        crate::read_order(order, numbers)
+    }
+
+    fn write_order(&self, processors: u32, [m, t, d, c]: [&[u32]; 4], out: &mut [u8]) -> Answer {
+        crate::write_order(processors, m, t, d, c, out)
+    }
+
+    fn plan(&self, order: &[u8], out: &mut [u8]) -> Answer {
+        plan(order, out)
+    }
+
+    fn check(&self, order: &[u8], build: &[u8]) -> Answer {
+        check(order, build)
+    }
+
+    fn run(&self, order: &[u8], build: &[u8], script: &[u8], out: &mut [u32]) -> Answer {
+        run(order, build, script, out)
+    }
+}
