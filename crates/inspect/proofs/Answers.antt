@@ -12,12 +12,12 @@ use Rattle.model.specs.Limits.{emptyBuild, emptyOrder}
 use Rattle.model.specs.Rules.{WithinLimits, firstBroken}
 use Rattle.model.proofs.Rules.{AllPass, done-pass, done-count}
 use Rattle.order.specs.Order.{Reads, orderAt, orderRules}
-use Rattle.order.proofs.Reading.{read-answer, read-rules, read-order, within-limits}
+use Rattle.order.proofs.Reading.{read-answer, read-order, within-limits}
 use Rattle.build.specs.Build.{buildAt}
 use Rattle.inspect_layout.specs.declared.Laid.{Laid}
 use Rattle.inspect_layout.specs.Rules.{buildLayoutRules, laidBy, LaysOut}
 use Rattle.inspect.specs.declared.Checked.{Checked}
-use Rattle.inspect.specs.Rules.{recordRules, buildRules, checkAnswer, checkedBy}
+use Rattle.inspect.specs.Rules.{buildRecordRules, buildRules, checkAnswer, checkedBy}
 use Rattle.inspect.proofs.Chain.{layout-stop, records-on, order-stop, build-on}
 
 laid-answer : (a : Answer) (b : Build) → laidBy a b .answer ≡ a
@@ -49,9 +49,9 @@ module _ (o : Order) (s : List ℕ) (laid : Laid) (is : LaysOut o s laid) where
   pub build-read : {count : ℕ} → laid .answer ≡ Done count → laid .build ≡ buildAt s
   build-read {count} e = ap (λ (l : Laid). l .build) (same (Done count) e)
 
-  module _ {count : ℕ} (done : laid .answer ≡ Done count) (judged : Answer) (by : judged ≡ firstBroken 0 (recordRules o (laid .build))) where
+  module _ {count : ℕ} (done : laid .answer ≡ Done count) (judged : Answer) (by : judged ≡ firstBroken 0 (buildRecordRules o (laid .build))) where
     whole : firstBroken 0 (buildRules o s) ≡ judged
-    whole = records-on o s (found ∙ done) ∙ ap (λ (b : Build). firstBroken 0 (recordRules o b)) (sym (build-read done)) ∙ sym by
+    whole = records-on o s (found ∙ done) ∙ ap (λ (b : Build). firstBroken 0 (buildRecordRules o b)) (sym (build-read done)) ∙ sym by
 
     pub records-refused : {cause : Refusal} → judged ≡ Refused cause → (b : Build) → b ≡ emptyBuild → record { answer = Refused cause; build = b } ≡ laidBy (firstBroken 0 (buildRules o s)) (buildAt s)
     records-refused {cause} e b none =

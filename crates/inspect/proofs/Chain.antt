@@ -14,7 +14,7 @@ use Rattle.inspect_layout.specs.Rules.{buildLayoutRules}
 use Rattle.inspect_places.specs.Rules.{placeRules}
 use Rattle.inspect_members.specs.Rules.{widthRules, rankRules}
 use Rattle.inspect_tests.specs.Rules.{testRules}
-use Rattle.inspect.specs.Rules.{recordRules, buildRules, checkRules, checkAnswer}
+use Rattle.inspect.specs.Rules.{buildRecordRules, buildRules, checkRules, checkAnswer}
 
 -- a part that is done is passed
 pub go-on : (a b : List Rule) {count : ℕ} → firstBroken 0 a ≡ Done count → firstBroken 0 (a ++ b) ≡ firstBroken 0 b
@@ -34,31 +34,31 @@ module _ (o : Order) (b : Build) where
   abbrev tested : List Rule
   tested = testRules o b
 
-  pub places-stop : {cause : Refusal} → firstBroken 0 placed ≡ Refused cause → firstBroken 0 (recordRules o b) ≡ Refused cause
-  unfolding recordRules
+  pub places-stop : {cause : Refusal} → firstBroken 0 placed ≡ Refused cause → firstBroken 0 (buildRecordRules o b) ≡ Refused cause
+  unfolding buildRecordRules
   places-stop {cause} e = stop 0 placed (wide ++ (ranked ++ tested)) cause e
 
-  pub widths-stop : {cause : Refusal} {count : ℕ} → firstBroken 0 placed ≡ Done count → firstBroken 0 wide ≡ Refused cause → firstBroken 0 (recordRules o b) ≡ Refused cause
-  unfolding recordRules
+  pub widths-stop : {cause : Refusal} {count : ℕ} → firstBroken 0 placed ≡ Done count → firstBroken 0 wide ≡ Refused cause → firstBroken 0 (buildRecordRules o b) ≡ Refused cause
+  unfolding buildRecordRules
   widths-stop {cause} p e = go-on placed (wide ++ (ranked ++ tested)) p ∙ stop 0 wide (ranked ++ tested) cause e
 
-  pub ranks-stop : {cause : Refusal} {count other : ℕ} → firstBroken 0 placed ≡ Done count → firstBroken 0 wide ≡ Done other → firstBroken 0 ranked ≡ Refused cause → firstBroken 0 (recordRules o b) ≡ Refused cause
-  unfolding recordRules
+  pub ranks-stop : {cause : Refusal} {count other : ℕ} → firstBroken 0 placed ≡ Done count → firstBroken 0 wide ≡ Done other → firstBroken 0 ranked ≡ Refused cause → firstBroken 0 (buildRecordRules o b) ≡ Refused cause
+  unfolding buildRecordRules
   ranks-stop {cause} p w e = go-on placed (wide ++ (ranked ++ tested)) p ∙ go-on wide (ranked ++ tested) w ∙ stop 0 ranked tested cause e
 
-  pub tests-last : {count other third : ℕ} → firstBroken 0 placed ≡ Done count → firstBroken 0 wide ≡ Done other → firstBroken 0 ranked ≡ Done third → firstBroken 0 (recordRules o b) ≡ firstBroken 0 tested
-  unfolding recordRules
+  pub tests-last : {count other third : ℕ} → firstBroken 0 placed ≡ Done count → firstBroken 0 wide ≡ Done other → firstBroken 0 ranked ≡ Done third → firstBroken 0 (buildRecordRules o b) ≡ firstBroken 0 tested
+  unfolding buildRecordRules
   tests-last p w r = go-on placed (wide ++ (ranked ++ tested)) p ∙ go-on wide (ranked ++ tested) w ∙ go-on ranked tested r
 
 -- 20 to 30
 module _ (o : Order) (s : List ℕ) where
   pub layout-stop : {cause : Refusal} → firstBroken 0 (buildLayoutRules o s) ≡ Refused cause → firstBroken 0 (buildRules o s) ≡ Refused cause
   unfolding buildRules
-  layout-stop {cause} e = stop 0 (buildLayoutRules o s) (recordRules o (buildAt s)) cause e
+  layout-stop {cause} e = stop 0 (buildLayoutRules o s) (buildRecordRules o (buildAt s)) cause e
 
-  pub records-on : {count : ℕ} → firstBroken 0 (buildLayoutRules o s) ≡ Done count → firstBroken 0 (buildRules o s) ≡ firstBroken 0 (recordRules o (buildAt s))
+  pub records-on : {count : ℕ} → firstBroken 0 (buildLayoutRules o s) ≡ Done count → firstBroken 0 (buildRules o s) ≡ firstBroken 0 (buildRecordRules o (buildAt s))
   unfolding buildRules
-  records-on e = go-on (buildLayoutRules o s) (recordRules o (buildAt s)) e
+  records-on e = go-on (buildLayoutRules o s) (buildRecordRules o (buildAt s)) e
 
 -- the order's, then the build's
 module _ (order build : List ℕ) where

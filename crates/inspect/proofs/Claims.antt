@@ -10,10 +10,10 @@ use Rattle.model.specs.declared.answer.Answer.the-variants.{Done, Refused}
 use Rattle.model.specs.Limits.{taskOf, memberOf, homeOf}
 use Rattle.model.specs.Answer.{answerCount}
 use Rattle.model.specs.Rules.{WithinLimits, AllKept, RightAnswer, OneRightAnswer, taskRules, rangeRules}
-use Rattle.model.proofs.Rules.{AllPass, done-pass, pass-done, pass-front, kept-append, kept-front, kept-rest, kept-at, kept-all, pass-kept, kept-pass, one-right-answer}
+use Rattle.model.proofs.Rules.{done-pass, pass-done, pass-front, kept-append, kept-front, kept-rest, kept-at, kept-all, pass-kept, kept-pass, one-right-answer}
 use Rattle.order.specs.Order.{headerOf, orderAt, headerRules, spareRules, layoutRules, orderRules}
 use Rattle.order.proofs.Reading.{within-limits}
-use Rattle.build.specs.Build.{buildHeaderOf, buildAt}
+use Rattle.build.specs.Build.{buildAt}
 use Rattle.demand.specs.declared.Verdict.the-variants.{Passes}
 use Rattle.demand.specs.Priority.{membersOf}
 use Rattle.demand.specs.Test.{verdict}
@@ -24,7 +24,7 @@ use Rattle.inspect_places.specs.Rules.{placeRules}
 use Rattle.inspect_members.specs.Rules.{widthRules, rankRules}
 use Rattle.inspect_tests.specs.Rules.{testRules}
 use Rattle.inspect_tests.proofs.Verdicts.{passing-worst, worst-passing, passing-starts, worst-one}
-use Rattle.inspect.specs.Rules.{recordRules, buildRules, checkRules, checkAnswer}
+use Rattle.inspect.specs.Rules.{buildRecordRules, buildRules, checkRules, checkAnswer}
 use Rattle.inspect.specs.Claims.{OrderRight, LayoutRight, RecordsRight, EveryRule, DoneExactly, RefusedExactly, OneCheckAnswer, NoOtherCheckAnswer, CheckingUnique, CheckedUnique, CountsNothing, AcceptedBuild, DoneAccepts, AcceptedDone}
 use Rattle.inspect.proofs.Turn.{check-tells}
 
@@ -73,8 +73,8 @@ module _ (o : Order) (s : List ℕ) where
   layout-kept r = (r .long, (r .header, (r .size, (r .spares, tt))))
 
 module _ (o : Order) (b : Build) where
-  records-right : AllKept (recordRules o b) → RecordsRight o b
-  unfolding AllKept recordRules placeRules widthRules rankRules testRules
+  records-right : AllKept (buildRecordRules o b) → RecordsRight o b
+  unfolding AllKept buildRecordRules placeRules widthRules rankRules testRules
   records-right kept =
       let n = o .tasks in
       let after-places = kept-rest (placeRules o b) (widthRules o b ++ (rankRules o b ++ testRules o b)) kept in
@@ -90,8 +90,8 @@ module _ (o : Order) (b : Build) where
         responses = λ i l. kept-at _ n i l tests .1 .1 .1 .0;
       }
 
-  records-kept : RecordsRight o b → AllKept (recordRules o b)
-  unfolding AllKept recordRules placeRules widthRules rankRules testRules
+  records-kept : RecordsRight o b → AllKept (buildRecordRules o b)
+  unfolding AllKept buildRecordRules placeRules widthRules rankRules testRules
   records-kept r =
       let n = o .tasks in
       kept-append (placeRules o b) (widthRules o b ++ (rankRules o b ++ testRules o b))
@@ -109,8 +109,8 @@ module _ (order build : List ℕ) where
       let layout = buildLayoutRules o build in
       record {
         order-right = order-right order (kept-front (orderRules order) (buildRules o build) kept);
-        layout-right = layout-right o build (kept-front layout (recordRules o (buildAt build)) rest);
-        records-right = records-right o (buildAt build) (kept-rest layout (recordRules o (buildAt build)) rest);
+        layout-right = layout-right o build (kept-front layout (buildRecordRules o (buildAt build)) rest);
+        records-right = records-right o (buildAt build) (kept-rest layout (buildRecordRules o (buildAt build)) rest);
       }
 
   every-kept : EveryRule order build → AllKept (checkRules order build)
@@ -118,7 +118,7 @@ module _ (order build : List ℕ) where
   every-kept r =
       let o = orderAt order in
       kept-append (orderRules order) (buildRules o build) (order-kept order (r .order-right))
-      (kept-append (buildLayoutRules o build) (recordRules o (buildAt build)) (layout-kept o build (r .layout-right)) (records-kept o (buildAt build) (r .records-right)))
+      (kept-append (buildLayoutRules o build) (buildRecordRules o (buildAt build)) (layout-kept o build (r .layout-right)) (records-kept o (buildAt build) (r .records-right)))
 
 pub done-exactly : DoneExactly
 unfolding checkAnswer

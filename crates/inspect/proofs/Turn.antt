@@ -1,12 +1,11 @@
 -- Every rule's test tells, where those of the rules before it passed; and what passed rules give to the next part.
-use mathlib.Core.Path.{_≡_, sym}
 use mathlib.Core.List.{List, _++_}
-use Prim.Native.Nat.{ℕ, _≤_, _<_}
+use Prim.Native.Nat.{ℕ, _≤_}
 use native.Mathlib.Omega.{arith}
 use borrow.Author.Tests.{eqb-true}
 use Rattle.model.specs.declared.order.Order.{Order}
 use Rattle.model.specs.declared.build.Build.{Build}
-use Rattle.model.specs.Limits.{mostTasks, mostPartitions, memberOf, homeOf}
+use Rattle.model.specs.Limits.{mostTasks, mostPartitions}
 use Rattle.model.specs.Rules.{WithinLimits, TestsTell}
 use Rattle.model.proofs.Rules.{AllPass, tell-append, scan-at}
 use Rattle.order.specs.Order.{orderAt, orderRules}
@@ -14,7 +13,6 @@ use Rattle.order.proofs.Reading.{within-limits}
 use Rattle.order.proofs.Rules.{order-tells}
 use Rattle.build.specs.Build.{buildHeaderOf, buildAt, FieldsFit}
 use Rattle.build.proofs.Fits.{build-fits}
-use Rattle.demand.specs.Priority.{membersOf, rank}
 use Rattle.inspect_layout.specs.Rules.{HeaderMatches, buildLayoutRules}
 use Rattle.inspect_layout.proofs.Rules.{layout-tells, matching-tells}
 use Rattle.inspect_places.specs.Rules.{placeRules}
@@ -25,10 +23,10 @@ use Rattle.inspect_members.proofs.Rules.{widths-tell, ranks-tell, wide-at}
 use Rattle.inspect_tests.specs.Rules.{testRules}
 use Rattle.inspect_tests.specs.Results.{RanksRecorded}
 use Rattle.inspect_tests.proofs.Verdicts.{tests-tell}
-use Rattle.inspect.specs.Rules.{recordRules, buildRules, checkRules}
+use Rattle.inspect.specs.Rules.{buildRecordRules, buildRules, checkRules}
 
-records-tell : (o : Order) (b : Build) → WithinLimits o → TestsTell (recordRules o b)
-unfolding recordRules
+records-tell : (o : Order) (b : Build) → WithinLimits o → TestsTell (buildRecordRules o b)
+unfolding buildRecordRules
 records-tell o b limits =
     tell-append (placeRules o b) (widthRules o b ++ (rankRules o b ++ testRules o b)) (places-tell o b)
     (λ _. tell-append (widthRules o b) (rankRules o b ++ testRules o b) (widths-tell o b)
@@ -36,7 +34,7 @@ records-tell o b limits =
 
 build-tells : (o : Order) (s : List ℕ) → WithinLimits o → TestsTell (buildRules o s)
 unfolding buildRules
-build-tells o s limits = tell-append (buildLayoutRules o s) (recordRules o (buildAt s)) (layout-tells o s) (λ _. records-tell o (buildAt s) limits)
+build-tells o s limits = tell-append (buildLayoutRules o s) (buildRecordRules o (buildAt s)) (layout-tells o s) (λ _. records-tell o (buildAt s) limits)
 
 pub check-tells : (order build : List ℕ) → TestsTell (checkRules order build)
 unfolding checkRules

@@ -17,12 +17,12 @@ use Rattle.inspect_tests.specs.Rules.{testRules}
 use Rattle.inspect.specs.declared.Checked.{Checked}
 
 -- 24 to 30, of the build that was read
-unfoldable pub recordRules : Order → Build → List Rule
-recordRules o b = placeRules o b ++ (widthRules o b ++ (rankRules o b ++ testRules o b))
+unfoldable pub buildRecordRules : Order → Build → List Rule
+buildRecordRules o b = placeRules o b ++ (widthRules o b ++ (rankRules o b ++ testRules o b))
 
 -- 20 to 30
 unfoldable pub buildRules : Order → List ℕ → List Rule
-buildRules o s = buildLayoutRules o s ++ recordRules o (buildAt s)
+buildRules o s = buildLayoutRules o s ++ buildRecordRules o (buildAt s)
 
 unfoldable pub checkRules : List ℕ → List ℕ → List Rule
 checkRules order build = orderRules order ++ buildRules (orderAt order) build

@@ -10,7 +10,7 @@ ghost use Rattle.model.specs.Limits.{emptyOrder, emptyBuild};
 ghost use Rattle.model.specs.Rules.{firstBroken, WithinLimits};
 ghost use Rattle.build.specs.Build.{buildAt, FieldsFit};
 ghost use Rattle.inspect_layout.specs.Rules.{laidBy};
-ghost use Rattle.inspect.specs.Rules.{recordRules, buildRules, checkedBy, Checks, ChecksBoth};
+ghost use Rattle.inspect.specs.Rules.{buildRecordRules, buildRules, checkedBy, Checks, ChecksBoth};
 
 // The answer, with the order and the build that were read.
 pub struct Checked {
@@ -22,7 +22,7 @@ pub struct Checked {
 // 24 to 30: all partitions for 24, all tasks for 25, all for 26, then task by task 27 to 30.
 fn judge_records(order: Order, build: Build) -> Answer
     requires { ⌜ WithinLimits order × FieldsFit build ⌝ }
-    ensures { λ r. ⌜ r ≡ firstBroken 0 (recordRules order build) ⌝ }
+    ensures { λ r. ⌜ r ≡ firstBroken 0 (buildRecordRules order build) ⌝ }
 {
     let placed = inspect_places::judge_places(order, build);
     if let Answer::Refused(cause) = placed {

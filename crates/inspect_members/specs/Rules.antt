@@ -1,8 +1,7 @@
 -- "all tasks for 25, all for 26": each task in a partition that is there and wide enough, with its rank there.
 use Prim.Native.Nat.{ℕ, _≤_, _<_}
-use mathlib.Core.Path.{_≡_}
 use mathlib.Core.Bool.{Bool, _&&_}
-use mathlib.Core.List.{List, [], _∷_, _++_}
+use mathlib.Core.List.{List, [], _∷_}
 use lib.Dec.{leb, ltb}
 use Rattle.laws.specs.Joined.{joined}
 use Rattle.model.specs.declared.order.Order.{Order}

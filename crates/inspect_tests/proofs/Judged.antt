@@ -1,13 +1,12 @@
 -- 27 to 30 of a task, by what its test gave.
 use mathlib.Core.Path.{_≡_, refl, sym, ap, _∙_, subst}
 use mathlib.Core.Bool.{Bool, true, false, _&&_}
-use mathlib.Core.List.{List}
-use mathlib.Core.Logic.{_⊎_, inl, inr, ⊎-elim}
+use mathlib.Core.Logic.{_⊎_, ⊎-elim}
 use Prim.Native.Nat.{ℕ, _+_, _≤_, _<_}
 use native.Mathlib.Omega.{arith}
 use lib.Dec.{ltb, eqb}
 use lib.ListN.{getD}
-use borrow.Author.Tests.{lt-ltb, ltb-true, eq-eqb, eqb-true, eqb-false, ne-eqb}
+use borrow.Author.Tests.{lt-ltb, ltb-true}
 use Rattle.laws.specs.Joined.{joined}
 use Rattle.laws.proofs.Every.{clash, and-both}
 use Rattle.model.specs.declared.order.Order.{Order}
@@ -22,9 +21,8 @@ use Rattle.model.proofs.Rules.{AllPass, pass-done, scan-all, scan-stop}
 use Rattle.demand.specs.declared.Verdict.{Verdict}
 use Rattle.demand.specs.declared.Verdict.the-variants.{Passes, NoWindow, TooLate}
 use Rattle.demand.specs.Priority.{membersOf}
-use Rattle.demand.specs.Test.{responseOf}
 use Rattle.roster.specs.Keys.{runFrom}
-use Rattle.roster.proofs.Runs.{run-passes, run-stops, run-most}
+use Rattle.roster.proofs.Runs.{run-passes, run-stops}
 use Rattle.inspect_tests.specs.declared.Results.{Results}
 use Rattle.inspect_tests.specs.Rules.{windowThere, verdictRules, taskTestRules, testRules}
 use Rattle.inspect_tests.specs.Results.{verdictHere, ResultsOf, rightResponse}

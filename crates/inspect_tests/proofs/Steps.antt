@@ -1,6 +1,6 @@
 -- What each step of the tests needs and gives: a partition at a place of the line, and the partition of one task.
 use mathlib.Core.Path.{_≡_, refl, sym, ap, _∙_, subst}
-use mathlib.Core.Bool.{Bool, true, false}
+use mathlib.Core.Bool.{Bool, false}
 use mathlib.Core.List.{List}
 use Prim.Native.Nat.{ℕ, _+_, _-_, _≤_, _<_}
 use native.Mathlib.Omega.{arith}
@@ -10,7 +10,7 @@ use borrow.Author.Tests.{eq-eqb, ltb-true, ltb-false}
 use Rattle.model.specs.declared.order.Order.{Order}
 use Rattle.model.specs.declared.build.Member.{Member}
 use Rattle.model.specs.declared.build.Build.{Build}
-use Rattle.model.specs.Limits.{mostTasks, homeOf}
+use Rattle.model.specs.Limits.{mostTasks}
 use Rattle.demand.specs.Priority.{membersOf, rank}
 use Rattle.demand.specs.Test.{responseOf}
 use Rattle.asked.specs.Rows.{RowsFit, rowTask, askedBy, blockingIn}
@@ -23,9 +23,8 @@ use Rattle.roster.proofs.Ranks.{rank-is}
 use Rattle.roster.proofs.Runs.{run-on, run-most, run-passes, run-stops}
 use Rattle.trial.specs.Known.{Apart, Bounds}
 use Rattle.inspect_members.proofs.Stretches.{homes-rise, placed}
-use Rattle.inspect_tests.specs.declared.Results.{Results}
 use Rattle.inspect_tests.specs.Rules.{windowThere}
-use Rattle.inspect_tests.specs.Results.{Lineup, SomeLineup, verdictHere, OpenBelow, TestedRanks, TestedBefore, ResultsFor, TaskThere}
+use Rattle.inspect_tests.specs.Results.{SomeLineup, verdictHere, OpenBelow, TestedRanks, TestedBefore, ResultsFor, TaskThere}
 use Rattle.inspect_tests.proofs.Parts.{few-tasks, size-few, ranked, own-place, own-apart, next-ends, fit, verdict-at, unmet-rows, bounds-of, still-after, responses-after}
 use Rattle.inspect_tests.proofs.Verdicts.{window-over}
 

@@ -9,7 +9,7 @@ use Rattle.model.specs.declared.build.Build.{Build}
 use Rattle.model.specs.declared.answer.Refusal.the-variants.{OfBuild}
 use Rattle.model.specs.declared.answer.BuildCause.the-variants.{Window, Start, Late, Response}
 use Rattle.model.specs.Limits.{memberOf, homeOf}
-use Rattle.model.specs.Rules.{Fact, Rule, rule}
+use Rattle.model.specs.Rules.{Rule, rule}
 use Rattle.demand.specs.declared.Verdict.{Verdict}
 use Rattle.demand.specs.declared.Verdict.the-variants.{Passes, NoWindow, NoStart, TooLate}
 use Rattle.demand.specs.Priority.{Members, membersOf, deadlineOf}

@@ -1,5 +1,5 @@
 use borrow.Author.Needs.{needs}
-use mathlib.Core.Path.{_≡_, _∙_}
+use mathlib.Core.Path.{_∙_}
 use denote.Ref.{now}
 use Rattle.inspect.proofs.Answers.{order-refused, order-within, build-refused, both-done}
 use Rattle.inspect.proofs.check_both.Statement.{statement}

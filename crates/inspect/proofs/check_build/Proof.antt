@@ -1,7 +1,6 @@
 use borrow.Author.Needs.{needs}
-use mathlib.Core.Path.{_≡_, sym, ap, _∙_, subst⁻¹}
+use mathlib.Core.Path.{subst⁻¹}
 use denote.Ref.{now}
-use Rattle.model.specs.declared.build.Build.{Build}
 use Rattle.build.specs.Build.{FieldsFit}
 use Rattle.inspect.proofs.Answers.{layout-refused, layout-passed, build-read, records-refused, records-done}
 use Rattle.inspect.proofs.Turn.{fields-fit}

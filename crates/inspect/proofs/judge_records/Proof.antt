@@ -1,11 +1,8 @@
 use borrow.Author.Needs.{needs}
-use mathlib.Core.Path.{_≡_, sym, ap, _∙_}
-use Prim.Native.Nat.{ℕ, _≤_, _<_}
-use Rattle.model.specs.declared.answer.Answer.the-variants.{Done}
-use Rattle.model.proofs.Rules.{AllPass, done-pass}
+use mathlib.Core.Path.{sym, _∙_}
+use Rattle.model.proofs.Rules.{done-pass}
 use Rattle.inspect_members.specs.Rules.{widthRules, rankRules}
 use Rattle.inspect_members.specs.Line.{HomesFew}
-use Rattle.inspect_tests.specs.Results.{RanksRecorded}
 use Rattle.inspect.proofs.Chain.{places-stop, widths-stop, ranks-stop, tests-last}
 use Rattle.inspect.proofs.Turn.{homes-few, ranks-passed}
 use Rattle.inspect.proofs.judge_records.Statement.{statement}

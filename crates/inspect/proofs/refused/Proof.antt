@@ -1,5 +1,5 @@
 use borrow.Author.Needs.{needs}
-use mathlib.Core.Path.{_≡_, refl}
+use mathlib.Core.Path.{refl}
 use Rattle.inspect.proofs.refused.Statement.{statement}
 use Rattle.inspect.proofs.refused.Tie as tie
 

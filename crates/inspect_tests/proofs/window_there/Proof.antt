@@ -1,19 +1,17 @@
 use borrow.Author.Needs.{needs}
-use Prim.Native.Nat.{ℕ, _+_, _≤_, _<_}
-use mathlib.Core.Path.{_≡_, refl, sym, ap, _∙_, subst}
+use Prim.Native.Nat.{ℕ, _+_}
+use mathlib.Core.Path.{refl, sym, ap, _∙_, subst}
 use mathlib.Core.List.{List}
 use native.Mathlib.Omega.{arith}
 use lib.ListN.{getD}
 use Rattle.laws.proofs.Overlaid.{overlaid-in}
 use Rattle.model.specs.declared.order.Order.{Order}
 use Rattle.model.specs.declared.build.Build.{Build}
-use Rattle.asked.specs.Rows.{askedBy, rowTask, blockingIn}
+use Rattle.asked.specs.Rows.{askedBy, rowTask}
 use Rattle.asked.proofs.Rows.{fit-fewer}
 use Rattle.asked.specs.Met.{UnmetBelow}
 use Rattle.verdict.specs.Tested.{isThere, windowOf}
 use Rattle.trial.proofs.Heads.{blocking-in-most}
-use Rattle.roster.specs.Keys.{homeIn, keyAt}
-use Rattle.roster.specs.Lined.{partSize}
 use Rattle.inspect_tests.specs.Results.{TaskThere}
 use Rattle.inspect_tests.proofs.Steps.{Copied, part-few, sought-first, sought-needs, Needs}
 use Rattle.inspect_tests.proofs.Parts.{few-tasks}
