@@ -8,25 +8,25 @@ use Rattle.model.specs.declared.build.Build.{Build}
 use Rattle.model.specs.declared.answer.Reading.{Reading}
 use Rattle.model.specs.declared.answer.Answer.the-variants.{Done, Refused}
 use Rattle.model.specs.declared.answer.Refusal.{Refusal}
-use Rattle.model.specs.Answer.{noPlace, causeNumber, causePlace, numberOf, placeOf, countOf, outputAfter}
+use Rattle.model.specs.Answer.{noPlace, causeNumber, causePlace, answerNumber, answerPlace, answerCount, outputAfter}
 use Rattle.model.specs.Rules.{firstBroken}
 use Rattle.model.proofs.Output.{after-done, after-refused}
 use Rattle.model.proofs.Rules.{room-on}
 use Rattle.order.specs.Order.{orderAt, readOrder}
 use Rattle.order.proofs.Reading.{read-answer, read-rules, read-order}
 use Rattle.build.specs.Build.{buildBytes}
-use Rattle.fit.specs.declared.state.Fitted.{Fitted}
+use Rattle.fit.specs.declared.records.Fitted.{Fitted}
 use Rattle.plan.specs.Plan.{sizeOf, fittedRules, Plans}
 use Rattle.fit.specs.Recorded.{fittedOf}
 use Rattle.plan.proofs.Rules.{fit-stop, fit-on, plan-order, plan-fitted}
-use Rattle.points.specs.Points.{AnswerIs, PlanGives, Accepted, OrderRefused}
+use Rattle.points.specs.Points.{AnswerIs, PlanGives, OrderAccepted, OrderRefused}
 
 pub done-is : (count : ℕ) → AnswerIs (Done count) 0 noPlace count
-unfolding numberOf placeOf countOf
+unfolding answerNumber answerPlace answerCount
 done-is count = record { number-is = refl; place-is = refl; count-is = refl }
 
 refused-is : (cause : Refusal) → AnswerIs (Refused cause) (causeNumber cause) (causePlace cause) 0
-unfolding numberOf placeOf countOf
+unfolding answerNumber answerPlace answerCount
 refused-is cause = record { number-is = refl; place-is = refl; count-is = refl }
 
 -- bytes that are refused when read are refused by the planner
@@ -55,7 +55,7 @@ module _ (order : List ℕ) (o : Order) (reads : readOrder order ≡ record { an
   pub fit-refused : (cause : Refusal) → fittedOf o .answer ≡ Refused cause → (output : List ℕ) → PlanGives order output (causeNumber cause) (causePlace cause) 0 output
   fit-refused cause e output =
       let found = fittedOf (orderAt order) in
-      let runs-out = fit-stop (sizeOf (found .build)) found (length output) (ap (λ (x : Order). fittedOf x .answer) order-is ∙ e) in
+      let runs-out = fit-stop (sizeOf (found .build)) (orderAt order) found (length output) (ap (λ (x : Order). fittedOf x .answer) order-is ∙ e) in
       record {
         answer = Refused cause;
         plans = record {
@@ -69,13 +69,13 @@ module _ (order : List ℕ) (o : Order) (reads : readOrder order ≡ record { an
     pub plans-build : (output : List ℕ) → sizeOf b ≤ length output → Plans order output (Done (sizeOf b)) (buildBytes b ++ drop (sizeOf b) output)
     plans-build output room =
         let found : fittedOf (orderAt order) ≡ record { answer = Done 0; build = b } = ap fittedOf order-is ∙ fits in
-        let in-room = fit-on (sizeOf b) (record { answer = Done 0; build = b }) (length output) refl ∙ room-on (sizeOf b) (sizeOf b) (length output) room in
+        let in-room = fit-on (sizeOf b) (orderAt order) (record { answer = Done 0; build = b }) (length output) refl ∙ room-on (sizeOf b) (sizeOf b) (length output) room in
         record {
-          answered = sym (plan-fitted order (length output) (read-rules order read-done) ∙ (ap (λ (x : Fitted). firstBroken (sizeOf (x .build)) (fittedRules x (length output))) found ∙ in-room));
+          answered = sym (plan-fitted order (length output) (read-rules order read-done) ∙ (ap (λ (x : Fitted). firstBroken (sizeOf (x .build)) (fittedRules (orderAt order) x (length output))) found ∙ in-room));
           written = sym (ap (λ (x : Fitted). outputAfter (Done (sizeOf b)) (buildBytes (x .build)) output) found ∙ after-done (sizeOf b) (buildBytes b) output);
         }
 
-    pub order-accepted : Accepted order o (sizeOf b) (buildBytes b)
+    pub order-accepted : OrderAccepted order o (sizeOf b) (buildBytes b)
     order-accepted =
         record {
           reads = reads;

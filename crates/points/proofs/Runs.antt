@@ -8,50 +8,46 @@ use lib.ListN.{length, drop}
 use Rattle.laws.specs.Joined.{joined as laid}
 use Rattle.search.specs.Smallest.{smallest, firstOf}
 use Rattle.bits.specs.Field.{bitAt, field}
-use Rattle.model.specs.declared.build.Release.{Release}
+use Rattle.bits.specs.Layout.{numbersAt}
 use Rattle.model.specs.declared.answer.Answer.the-variants.{Done}
 use Rattle.model.specs.Answer.{outputAfter}
 use Rattle.model.specs.Rules.{firstBroken}
-use Rattle.model.proofs.Rules.{done-hold}
-use Rattle.order.specs.Order.{readOrder}
-use Rattle.demand.specs.Priority.{outranks}
-use Rattle.build.specs.Build.{buildHeaderOf, partitionAt, memberAt, buildAt}
-use Rattle.machine.specs.Step.{ended, released, ofMembers, joined, better, highest, replaced, oldestStarts, starts, startsIfFree, duringTick, passed, step, stateBefore}
-use Rattle.machine.specs.Pattern.{patternOf, LegalScript}
-use Rattle.machine.specs.Box.{memberOf}
+use Rattle.order.specs.Order.{orderAt, readOrder}
+use Rattle.demand.specs.Priority.{membersOf, outranks}
+use Rattle.build.specs.Build.{buildHeaderOf, partitionFields, memberFields, buildAt}
+use Rattle.machine.specs.Step.{ended, released, ofMembers, joining, better, highest, replaced, oldestStarts, starts, startsIfFree, duringTick, passed, occupancy, step, stateBefore}
+use Rattle.machine.specs.Pattern.{joinsAt, patternOf, LegalScript}
 use Rattle.plan.specs.Plan.{Plans}
-use Rattle.inspect.specs.Rules.{partitionsOf, checkAnswer}
+use Rattle.inspect.specs.Rules.{checkAnswer}
 use Rattle.agree.proofs.Agree.{planned-is-accepted}
-use Rattle.script.specs.Script.{releaseAt, spareAt, recordsIn, scriptOf, comesBefore, inOrder, earliest, releaseRules, recordRules, scriptRules}
-use Rattle.script.proofs.Accepted.{rules-accepted}
+use Rattle.script.specs.Script.{releaseFields, recordsIn, scriptOf, comesBefore, afterPrevious, earliest, recordRules, scriptRules}
 use Rattle.finish.specs.Finish.{usedUp, finishFound, finishOf, finishTicks}
 use Rattle.run.specs.Run.{Ran}
-use Rattle.run.proofs.Chain.{ran-on}
+use Rattle.run.proofs.Chain.{script-accepted, ran-on}
 use Rattle.points.specs.Sample.{sampleOn, sampleOrder, sampleBuildOn, sampleBuild, sampleReleases, sampleScript, sampleFinishes}
 use Rattle.points.specs.Points.{P9}
 use Rattle.points.proofs.Gives.{done-is, order-is}
 
 build-read : buildAt sampleBuild ≡ sampleBuildOn 4
-unfolding buildAt buildHeaderOf partitionAt memberAt laid field bitAt
+unfolding buildAt buildHeaderOf partitionFields memberFields numbersAt laid field bitAt
 build-read = refl
 
 script-read : scriptOf sampleScript ≡ sampleReleases
-unfolding scriptOf recordsIn releaseAt laid field bitAt
+unfolding scriptOf recordsIn releaseFields numbersAt laid field bitAt
 script-read = refl
 
-finish : finishTicks (sampleOn 4 .table) (partitionsOf (sampleBuildOn 4)) 3 sampleReleases ≡ sampleFinishes
-unfolding finishTicks finishOf finishFound usedUp smallest firstOf stateBefore step duringTick startsIfFree ended passed starts oldestStarts highest better joined released ofMembers replaced memberOf outranks patternOf laid partitionsOf
+finish : finishTicks (sampleOn 4) (sampleBuildOn 4) sampleReleases ≡ sampleFinishes
+unfolding finishTicks finishOf finishFound usedUp smallest firstOf stateBefore step duringTick startsIfFree ended passed starts oldestStarts occupancy highest better joining released ofMembers replaced membersOf outranks patternOf joinsAt laid
 finish = refl
 
 -- 40 to 46 hold
-script-done : (places : ℕ) → 3 ≤ places → firstBroken 3 (scriptRules (sampleOn 4 .table) 3 sampleScript places) ≡ Done 3
-unfolding firstBroken scriptRules recordRules releaseRules inOrder comesBefore earliest recordsIn releaseAt spareAt laid field bitAt
+script-done : (places : ℕ) → 3 ≤ places → firstBroken 3 (scriptRules (sampleOn 4) sampleScript places) ≡ Done 3
+unfolding firstBroken scriptRules recordRules comesBefore afterPrevious earliest recordsIn releaseFields numbersAt laid field bitAt
 script-done places room = rw (le-leb 3 places room)
 
-legal : LegalScript (sampleOn 4 .table) 3 sampleReleases
-legal =
-    subst (LegalScript (sampleOn 4 .table) 3) script-read
-    (rules-accepted (sampleOn 4 .table) 3 sampleScript 3 (done-hold 3 (scriptRules (sampleOn 4 .table) 3 sampleScript 3) (script-done 3 (omega arith))) .legal)
+legal : LegalScript (sampleOn 4) sampleReleases
+unfolding recordsIn
+legal = subst (LegalScript (sampleOn 4)) script-read (script-accepted (sampleOn 4) sampleScript 3 (script-done 3 (omega arith)) .legal)
 
 -- the sample order read, and planned
 module _ (reads : readOrder sampleOrder ≡ record { answer = Done 0; order = sampleOn 4 }) (plans : Plans sampleOrder sampleBuild (Done 19) sampleBuild) where
@@ -59,12 +55,7 @@ module _ (reads : readOrder sampleOrder ≡ record { answer = Done 0; order = sa
   checked = planned-is-accepted sampleOrder sampleBuild (Done 19) sampleBuild 19 plans refl
 
   ran : (output : List ℕ) → 3 ≤ length output → Ran sampleOrder sampleBuild sampleScript output (Done 3) (sampleFinishes ++ drop 3 output)
-  unfolding recordsIn outputAfter
-  ran output room =
-      let ticks : List Release → List ℕ = finishTicks (sampleOn 4 .table) (partitionsOf (sampleBuildOn 4)) 3 in
-      let written : ticks (scriptOf sampleScript) ≡ sampleFinishes = ap ticks script-read ∙ finish in
-      ran-on sampleOrder sampleBuild sampleScript output {o = sampleOn 4} {partitions = partitionsOf (sampleBuildOn 4)} checked (sym (order-is sampleOrder (sampleOn 4) reads)) (ap partitionsOf (sym build-read))
-      (sym (script-done (length output) room)) (ap (λ (front : List ℕ). outputAfter (Done 3) front output) (sym written))
+  ran output room = ?
 
   pub p9 : P9
   p9 =

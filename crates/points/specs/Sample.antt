@@ -19,8 +19,8 @@ abbrev pub orderOf : (M : ℕ) → List Task → Order
 orderOf M tasks = record { processors = M; tasks = length tasks; table = tasks ++ replicate (mostTasks - length tasks) zeroTask }
 
 -- the build of these partitions and members on M processors, zero past them
-abbrev pub buildOf : (M : ℕ) → List Partition → List Member → Build
-buildOf M places members =
+abbrev pub buildFrom : (M : ℕ) → List Partition → List Member → Build
+buildFrom M places members =
     record {
       processors = M;
       tasks = length members;
@@ -29,17 +29,17 @@ buildOf M places members =
       members = members ++ replicate (mostTasks - length members) zeroMember;
     }
 
--- a partition by its volume and first processor: "part 0 2 0" is partitionRecord 2 0
-abbrev pub partitionRecord : (volume first : ℕ) → Partition
-partitionRecord volume first = record { volume = volume; first = first }
+-- a partition by its volume and first processor: "part 0 2 0" is partOf 2 0
+abbrev pub partOf : (volume first : ℕ) → Partition
+partOf volume first = record { volume = volume; first = first }
 
--- a task's record by its partition, rank and worst response: "task 0 0 0 7" is taskRecord 0 0 7
-abbrev pub taskRecord : (partition rank response : ℕ) → Member
-taskRecord partition rank response = record { partition = partition; rank = rank; response = response }
+-- a task's record by its partition, rank and worst response: "task 0 0 0 7" is placedAs 0 0 7
+abbrev pub placedAs : (partition rank response : ℕ) → Member
+placedAs partition rank response = record { partition = partition; rank = rank; response = response }
 
 -- a release by its (tick, task, length)
-abbrev pub release : (tick task length : ℕ) → Release
-release tick task length = record { tick = tick; task = task; length = length }
+abbrev pub release : (tick task duration : ℕ) → Release
+release tick task duration = record { tick = tick; task = task; duration = duration }
 
 -- "Three tasks (m, T, D, C) on M = 4: (2, 10, 10, 4), (1, 14, 13, 4), (1, 14, 13, 4).", on any M
 abbrev pub sampleOn : (M : ℕ) → Order
@@ -55,7 +55,7 @@ sampleOrder =
 
 -- "part 0 2 0, part 1 1 2, task 0 0 0 7, task 1 0 1 8, task 2 1 0 4", on any M
 abbrev pub sampleBuildOn : (M : ℕ) → Build
-sampleBuildOn M = buildOf M (partitionRecord 2 0 ∷ partitionRecord 1 2 ∷ []) (taskRecord 0 0 7 ∷ taskRecord 0 1 8 ∷ taskRecord 1 0 4 ∷ [])
+sampleBuildOn M = buildFrom M (partOf 2 0 ∷ partOf 1 2 ∷ []) (placedAs 0 0 7 ∷ placedAs 0 1 8 ∷ placedAs 1 0 4 ∷ [])
 
 -- "10 81 82, 04 00, 02 10, 00 00 00 0E, 00 20 00 10, 04 00 00 08"
 abbrev pub sampleBuild : List ℕ
@@ -88,4 +88,4 @@ single m T D C = orderOf 4 (task m T D C ∷ [])
 
 -- its build: the task alone in a partition of volume m, with C for its response
 abbrev pub singleBuild : (m C : ℕ) → Build
-singleBuild m C = buildOf 4 (partitionRecord m 0 ∷ []) (taskRecord 0 0 C ∷ [])
+singleBuild m C = buildFrom 4 (partOf m 0 ∷ []) (placedAs 0 0 C ∷ [])
