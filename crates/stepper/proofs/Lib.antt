@@ -1,8 +1,6 @@
-pub mod Fill
-pub mod Leaves
-pub mod Served
+pub mod Ranks
 pub mod Lines
-pub mod Choice
-pub mod Turn
+pub mod Above
+pub mod Marks
 pub mod Tick
-pub mod Skip
+pub mod Ready

@@ -1,261 +1,292 @@
--- A tick of the code's machine is a step of the definition's box.
-use Prim.Native.Nat.{ℕ, zero, suc, _+_, _-_, _≤_, _<_}
-use mathlib.Core.Path.{_≡_, refl, sym, _∙_, ap, subst, subst₂}
-use mathlib.Core.Bool.{Bool}
+-- The machine's tick is the definition's: what runs goes on, a free partition rests, or the oldest job of the highest-priority waiting member starts.
+use Prim.Native.Nat.{ℕ, zero, suc, _+_, _-_, _^_, _≤_, _<_}
+use mathlib.Core.Path.{_≡_, refl, sym, ap, _∙_, subst, subst₂}
+use mathlib.Core.Bool.{Bool, true, false, _&&_}
 use mathlib.Core.List.{List, [], _∷_, _++_}
-use mathlib.Core.Option.{none, some}
+use mathlib.Core.Logic.{_≢_, _⊎_, inl, inr, ⊎-elim}
 use native.Mathlib.Decide.{decLt, ℕ-discrete}
 use native.Mathlib.Omega.{arith}
-use lib.ListN.{length, length-append}
-use borrow.Author.Tests.{eq-eqb, ne-eqb}
-use Rattle.model.specs.declared.order.Task.{Task}
+use lib.Bits.{bitOr}
+use lib.Dec.{ltb}
+use lib.ListN.{length, getD, set, length-set}
+use lib.Seq.{getD-set-same, getD-set-other}
+use borrow.Author.Tests.{lt-ltb, le-ltb, ltb-true}
+use Rattle.laws.specs.Choice.{pick}
+use Rattle.laws.proofs.Every.{clash, and-both, both-and}
+use Rattle.model.specs.declared.order.Order.{Order}
+use Rattle.model.specs.declared.build.Build.{Build}
 use Rattle.model.specs.declared.build.Release.{Release}
-use Rattle.model.specs.Limits.{mostTasks, mostPartitions}
-use Rattle.demand.specs.Priority.{deadlineOf, outranks}
-use Rattle.machine.specs.Step.{Pattern, Job, job, Running, free, runs, Scheduler, ended, released, ofMembers, joined, highest}
-use Rattle.machine.specs.Pattern.{patternOf}
-use Rattle.machine.specs.Box.{partitionOf, memberOf, schedulerOf}
-use Rattle.machine.proofs.View.{waitingBefore, runningBefore}
-use Rattle.machine.proofs.Box.{ranked}
+use Rattle.model.specs.Limits.{mostTasks, mostRecords, homeOf}
+use Rattle.demand.specs.Priority.{membersOf, outranks}
+use Rattle.demand.proofs.Priority.{outranks-one, rank-less}
+use Rattle.machine.specs.Step.{Job, job, Running, free, runs, ended, released, joining}
+use Rattle.machine.specs.Pattern.{recordOf, patternOf}
+use Rattle.machine.proofs.View.{goes-on, begins, rests, waitingBefore, runningBefore, joinedBy, ViewAt, view}
+use Rattle.machine.proofs.Work.{theirs-of}
+use Rattle.machine.proofs.Once.{runs-own}
+use Rattle.machine.proofs.Isolation.{home-member, member-home}
 use Rattle.stepper.specs.declared.Machine.{Machine}
-use Rattle.stepper.specs.Arrays.{at, Sized, countOf, Joined, Chosen, Starts, taskThen, jobThen, leftThen, Served, waitingThen, oldestThen, Left}
-use Rattle.stepper.specs.Lines.{tickOf, taskOf, lengthOf, Next, InLine, Laid}
-use Rattle.stepper.specs.Follow.{ShowsTask, ShowsRunning, Follows, Given, Releases, Deadlines, Ready}
-use Rattle.stepper.proofs.Leaves.{starts-free, starts-none, task-free, task-on, job-starts, job-on, left-starts, left-on, waiting-starts, waiting-on, oldest-starts, oldest-on}
-use Rattle.stepper.proofs.Lines.{line-joined, line-passed, line-first, line-few}
-use Rattle.stepper.proofs.Choice.{taskOr32, highest-same}
-use Rattle.stepper.proofs.Turn.{Turn, goes-on, begins, rests, turn, joins-none}
+use Rattle.stepper.specs.Ranks.{rankBit, Lowest}
+use Rattle.stepper.specs.Lines.{recordTask, recordJoins, NextOf, InLine}
+use Rattle.stepper.specs.Follow.{rankOf, oldestOf, Heads, ShowsRunning, Marks, Follows, StartsOne, ReleasedIn, Seated}
+use Rattle.stepper.proofs.Ranks.{bit-most, bit-none, bit-left, bit-stays}
+use Rattle.stepper.proofs.Lines.{line-joined, line-passed, line-first}
+use Rattle.stepper.proofs.Above.{outranks-lower, ranks-apart}
+use Rattle.stepper.proofs.Marks.{heads-later, heads-next, marks-on}
 
-released-count : (t x : ℕ) → length (released t x) ≡ countOf x
-unfolding released countOf
-released-count t zero = refl
-released-count t (suc x) = refl
-
--- no time is left where what runs ends
-none-left : (script : List Release) (m : Machine) (p : ℕ) (r : Running) → ended r ≡ free → ShowsRunning script m p r → at (m .left) p ≡ 0
+-- what has time left does not end
+has-not-ended : (r : Running) (k a l : ℕ) → r ≡ runs k a (suc l) → ended r ≡ free → ⊥
 unfolding ended
-none-left script m p free e s = s .1
-none-left script m p (runs k a zero) e s = s .1
-none-left script m p (runs k a (suc l)) e s = let z : _≡_ {A = ℕ} 0 1 = cc in absurd (omega arith)
+has-not-ended r k a l e over = let z : _≡_ {A = ℕ} 0 1 = cc (sym (ap ended e) ∙ over) in omega arith
 
--- a task's jobs are shown by a machine that has the same of it
-same-task : {script : List Release} {m m′ : Machine} {t k : ℕ} {js js′ : List Job} → at (m′ .oldest) k ≡ at (m .oldest) k → at (m′ .waiting) k ≡ at (m .waiting) k → js′ ≡ js
-    → ShowsTask script m t k js → ShowsTask script m′ t k js′
-same-task {script} {m} {m′} {t} {k} e e′ e″ s =
-    record {
-      count = e′ ∙ (s .count ∙ ap length (sym e″));
-      line = subst₂ (λ (h : ℕ) (x : List Job). InLine script k h x t) (sym e) (sym e″) (s .line);
-      started = rw e (s .started);
-      own = rw e (s .own);
-      upto = rw e (s .upto);
-    }
+module _ {o : Order} {b : Build} {script : List Release} (seated : Seated o b script) (p : ℕ) (m : Machine) (follows : Follows o b script p m)
+    (releases : ℕ) (due : ReleasedIn b script p (m .tick) (suc (m .tick)) releases) where
+  abbrev tick : ℕ
+  tick = m .tick
 
-module _ (table : List Task) (partitions : List ℕ) (n : ℕ) (script : List Release) (given : Given table partitions n script) where
-  abbrev S : ℕ → Scheduler
-  S p = schedulerOf table partitions n p
+  abbrev mask : ℕ
+  mask = bitOr (m .waiting) releases
 
-  -- what waits in partition p once the releases of a tick have joined
-  abbrev pub joinedAt : (t p k : ℕ) → List Job
-  joinedAt t p = joined (ofMembers (S p) (patternOf script)) t (waitingBefore (S p) (patternOf script) t)
+  abbrev joined : ℕ → List Job
+  joined = joinedBy o (membersOf b p) (patternOf script) tick
 
-  joined-own : (t p k : ℕ) → partitionOf partitions k ≡ p → joinedAt t p k ≡ waitingBefore (S p) (patternOf script) t k ++ released t (patternOf script t k)
-  unfolding joined ofMembers memberOf
-  joined-own t p k e = rw (eq-eqb (partitionOf partitions k) p e)
+  abbrev View′ : Type 0
+  View′ = ViewAt o (membersOf b p) (patternOf script) tick
 
-  joined-others : (t p k : ℕ) → (partitionOf partitions k ≡ p → ⊥) → joinedAt t p k ≡ []
-  unfolding memberOf
-  joined-others t p k ne = joins-none (S p) (ranked table) (patternOf script) t k (ne-eqb (partitionOf partitions k) p ne)
+  -- the tick's releases have joined
+  heads-now : (k : ℕ) → k < o .tasks → homeOf b k ≡ p → Heads script (suc tick) k (oldestOf b m k)
+  heads-now k known home = heads-later (omega arith) (follows .heads k known home)
 
-  -- the counts are small
-  pub waits-few : {m : Machine} {t : ℕ} → length script ≤ 1024 → Follows table partitions n script m t → (k : ℕ) → k < n → at (m .waiting) k ≤ 1024
-  waits-few {m} {t} few follows k l =
-      let s = follows .waits k l in
-      omega (arith, s .count, line-few script k (at (m .oldest) k) (waitingBefore (S (partitionOf partitions k)) (patternOf script) t k) t (s .upto) (s .line))
+  marks-now : Marks o b script p (oldestOf b m) (suc tick) mask
+  marks-now = marks-on seated p (oldestOf b m) tick (suc tick) (m .waiting) releases (omega arith) (follows .heads) (follows .marks) due
 
-  module _ (m : Machine) (t : ℕ) (follows : Follows table partitions n script m t) (deadlines : List ℕ) (lengths : ℕ → ℕ) (next releases waiting chosen starts : List ℕ)
-      (ranks : Deadlines table n deadlines) (laid : Laid script lengths next) (due : Releases n script t releases)
-      (joins : Joined n (m .waiting) releases waiting) (chooses : Chosen partitions deadlines waiting n chosen) (begun : Starts (m .left) chosen starts) where
-    abbrev pub between : Machine
-    between = record { waiting = waiting; oldest = m .oldest; task = m .task; job = m .job; left = m .left }
+  line-now : (k : ℕ) → k < o .tasks → homeOf b k ≡ p → InLine script k (oldestOf b m k) (joined k) (suc tick)
+  unfolding joining
+  line-now k known home =
+      let same = theirs-of o (membersOf b p) (patternOf script) tick k (home-member b p k home) in
+      subst (λ (x : ℕ). InLine script k (oldestOf b m k) (waitingBefore o (membersOf b p) (patternOf script) tick k ++ released tick x) (suc tick)) (sym same)
+      (line-joined (seated .legal) k (oldestOf b m k) (waitingBefore o (membersOf b p) (patternOf script) tick k) tick (follows .heads k known home .before) (follows .line k known home))
 
-    shows-joined : (p k : ℕ) → k < n → partitionOf partitions k ≡ p → ShowsTask script between (suc t) k (joinedAt t p k)
-    shows-joined p k l e =
-        let s = subst (λ (x : ℕ). ShowsTask script m t k (waitingBefore (S x) (patternOf script) t k)) e (follows .waits k l) in
-        rw (joined-own t p k e) (record {
-          count = joins .each k l ∙ (ap (λ (x : ℕ). at (m .waiting) k + countOf x) (due k l) ∙ omega (arith, s .count, length-append (waitingBefore (S p) (patternOf script) t k) (released t (patternOf script t k)), released-count t (patternOf script t k)));
-          line = line-joined (given .legal) k (at (m .oldest) k) (waitingBefore (S p) (patternOf script) t k) t (s .started) (s .line);
-          started = λ i g q. omega (arith, s .started i g q);
-          own = s .own;
-          upto = s .upto;
-        })
+  -- where a job waits, the bit is set
+  waits-bit : (k : ℕ) (j : Job) (js : List Job) → k < o .tasks → homeOf b k ≡ p → joined k ≡ j ∷ js → rankBit mask (rankOf b k) ≡ 1
+  waits-bit k j js known home e =
+      let l = line-first (seated .legal) k (oldestOf b m k) j js (suc tick) (heads-now k known home .own) (subst (λ (x : List Job). InLine script k (oldestOf b m k) x (suc tick)) e (line-now k known home)) in
+      marks-now .waits k known home (omega (arith, l .0, seated .few-records)) (l .2)
 
-    abbrev over : ℕ → ℕ → Bool
-    over one other = outranks (deadlineOf table one) one (deadlineOf table other) other
+  -- and where the oldest has joined, a job waits
+  bit-waits : (k : ℕ) → k < o .tasks → homeOf b k ≡ p → oldestOf b m k < mostRecords → recordJoins script (oldestOf b m k) < suc tick → joined k ≡ [] → ⊥
+  bit-waits k known home some soon e =
+      let there = heads-now k known home .there some in
+      let late = subst (λ (x : List Job). InLine script k (oldestOf b m k) x (suc tick)) e (line-now k known home) (oldestOf b m k) (omega arith) there (heads-now k known home .own there) in
+      omega (arith, late)
 
-    chosen-so : (p : ℕ) → p < mostPartitions → at chosen p ≡ taskOr32 (highest over (joinedAt t p) n)
-    chosen-so p l =
-        chooses .each p l
-        ∙ highest-same table partitions deadlines waiting p (joinedAt t p) n (given .few) ranks (λ k g e. shows-joined p k g e .count) (λ k g ne. joined-others t p k ne) n (omega arith)
+  -- what begins is a member's
+  begins-own : (k a l : ℕ) → runningBefore o (membersOf b p) (patternOf script) (suc tick) ≡ runs k a l → homeOf b k ≡ p
+  begins-own k a l e = member-home b p k (runs-own o (membersOf b p) (patternOf script) (suc tick) k a l e .0)
 
-    -- what starts in partition p
-    starts-so : (p : ℕ) → p < mostPartitions → at (m .left) p ≡ 0 → at starts p ≡ taskOr32 (highest over (joinedAt t p) n)
-    starts-so p l e = begun .each p l ∙ (starts-free (at (m .left) p) (at chosen p) e ∙ chosen-so p l)
+  -- time left is that of what runs
+  left-runs : (k a l : ℕ) → runningBefore o (membersOf b p) (patternOf script) tick ≡ runs k a l → m .left ≡ l
+  left-runs k a l e = subst (ShowsRunning script m) e (follows .runs-so) .0
 
-    starts-not : (p : ℕ) → p < mostPartitions → (at (m .left) p ≡ 0 → ⊥) → at starts p ≡ mostTasks
-    starts-not p l ne = begun .each p l ∙ starts-none (at (m .left) p) (at chosen p) ne
+  still-runs : 0 < m .left → ended (runningBefore o (membersOf b p) (patternOf script) tick) ≡ free → ⊥
+  still-runs more = go (runningBefore o (membersOf b p) (patternOf script) tick) refl
+    where
+      go : (r : Running) → runningBefore o (membersOf b p) (patternOf script) tick ≡ r → ended r ≡ free → ⊥
+      go free e over = omega (arith, subst (ShowsRunning script m) e (follows .runs-so) .1)
+      go (runs k a zero) e over = omega (arith, left-runs k a 0 e)
+      go (runs k a (suc l)) e over = has-not-ended (runs k a (suc l)) k a l refl over
 
-    abbrev TurnOf : ℕ → Type 0
-    TurnOf p = Turn (S p) (joinedAt t p) (waitingBefore (S p) (patternOf script) (suc t)) (runningBefore (S p) (patternOf script) t) (runningBefore (S p) (patternOf script) (suc t))
-
-    free-now : (p : ℕ) → p < mostPartitions → ended (runningBefore (S p) (patternOf script) t) ≡ free → at (m .left) p ≡ 0
-    free-now p l over = none-left script m p (runningBefore (S p) (patternOf script) t) over (follows .runs-so p l)
-
-    -- the first in line of a task that begins is a member's
-    home-of : (p k : ℕ) (j : Job) (js : List Job) → joinedAt t p k ≡ j ∷ js → Dec (partitionOf partitions k ≡ p) → partitionOf partitions k ≡ p
-    home-of p k j js e (yes d) = d
-    home-of p k j js e (no d) = let e′ = joined-others t p k d in let z : _≡_ {A = ℕ} 0 1 = cc in absurd (omega arith)
-
-    first-of : (p k : ℕ) (j : Job) (js : List Job) → k < n → joinedAt t p k ≡ j ∷ js
-        → (at (m .oldest) k < length script) × (j ≡ job (tickOf script (at (m .oldest) k)) (lengthOf script (at (m .oldest) k))) × (tickOf script (at (m .oldest) k) < suc t) × InLine script k (suc (at (m .oldest) k)) js (suc t)
-    first-of p k j js l e =
-        let s = subst (ShowsTask script between (suc t) k) e (shows-joined p k l (home-of p k j js e (ℕ-discrete (partitionOf partitions k) p))) in
-        line-first (given .legal) k (at (m .oldest) k) j js (suc t) (s .own) (s .line)
-
-    turn-of : (p : ℕ) → TurnOf p
-    turn-of p = turn (S p) (ranked table) (patternOf script) t
-
-    -- where a task starts its oldest record is there
-    pub starts-ready : (p : ℕ) → p < mostPartitions → at starts p < mostTasks → at (m .oldest) (at starts p) < length script
-    starts-ready p l small = go (turn-of p)
-      where
-        go : TurnOf p → at (m .oldest) (at starts p) < length script
-        go (goes-on k a x e e′ same) =
-            let s : ShowsRunning script m p (runs k a (suc x)) = subst (ShowsRunning script m p) e (follows .runs-so p l) in
-            absurd (omega (arith, starts-not p l (λ z. omega (arith, s .1)), small))
-        go (begins k j js over h below e e′ w′ same) =
-            let b : at starts p ≡ k = starts-so p l (free-now p l over) ∙ ap taskOr32 h in
-            rw b (first-of p k j js below e .0)
-        go (rests over h e′ same) = absurd (omega (arith, starts-so p l (free-now p l over) ∙ ap taskOr32 h, small))
-
-    pub leaves-ready : (k : ℕ) → k < n → at starts (partitionOf partitions k) ≡ k → at (m .oldest) k < length script
-    leaves-ready k l e = rw e at (starts-ready (partitionOf partitions k) (given .homes k l) (omega (arith, e, given .few)))
-
-    module _ (s r : Machine) (served : Served between starts lengths 32 s) (left : Left s partitions starts next n r) where
-      task-now : (p : ℕ) → p < mostPartitions → at (r .task) p ≡ taskThen (at (m .task) p) (at (m .left) p) (at starts p)
-      task-now p l = rw (left .task) (served .task p l)
-
-      job-now : (p : ℕ) → p < mostPartitions → at (r .job) p ≡ jobThen (at (m .job) p) (m .oldest) (at starts p)
-      job-now p l = rw (left .job) (served .job p l)
-
-      left-now : (p : ℕ) → p < mostPartitions → at (r .left) p ≡ leftThen (at (m .left) p) lengths (jobThen (at (m .job) p) (m .oldest) (at starts p)) (at starts p)
-      left-now p l = rw (left .left) (served .left p l)
-
-      waiting-now : (k : ℕ) → k < n → at (r .waiting) k ≡ waitingThen (at waiting k) (at starts (partitionOf partitions k)) k
-      waiting-now k l = left .waiting k l ∙ rw (served .waiting)
-
-      oldest-now : (k : ℕ) → k < n → at (r .oldest) k ≡ oldestThen (at (m .oldest) k) next (at starts (partitionOf partitions k)) k
-      oldest-now k l = left .oldest k l ∙ rw (served .oldest)
-
-      running-after : (p : ℕ) → p < mostPartitions → TurnOf p → ShowsRunning script r p (runningBefore (S p) (patternOf script) (suc t))
-      running-after p l (goes-on k a x e e′ same) =
-          let o : ShowsRunning script m p (runs k a (suc x)) = subst (ShowsRunning script m p) e (follows .runs-so p l) in
-          let some : at (m .left) p ≡ 0 → ⊥ = λ z. omega (arith, o .1) in
-          let none : mostTasks ≤ at starts p = omega (arith, starts-not p l some) in
-          let same-job : at (r .job) p ≡ at (m .job) p = job-now p l ∙ job-on (at (m .job) p) (m .oldest) (at starts p) none in
-          subst (ShowsRunning script r p) (sym e′)
-          (task-now p l ∙ (task-on (at (m .task) p) (at (m .left) p) (at starts p) some ∙ o .0), left-now p l ∙ (left-on (at (m .left) p) lengths _ (at starts p) none ∙ omega (arith, o .1)), rw same-job (o .2), rw same-job (o .3), rw same-job (o .4))
-      running-after p l (begins k j js over h below e e′ w′ same) =
-          let zero-left = free-now p l over in
-          let b : at starts p ≡ k = starts-so p l zero-left ∙ ap taskOr32 h in
-          let small : at starts p < mostTasks = omega (arith, given .few) in
-          let f = first-of p k j js below e in
-          let own-job : at (r .job) p ≡ at (m .oldest) k = job-now p l ∙ (job-starts (at (m .job) p) (m .oldest) (at starts p) small ∙ ap (at (m .oldest)) b) in
-          let length-then : at (r .left) p ≡ lengthOf script (at (m .oldest) k) - 1 =
-          left-now p l ∙ (left-starts (at (m .left) p) lengths _ (at starts p) small ∙ (ap (λ (x : ℕ). lengths x - 1) (job-starts (at (m .job) p) (m .oldest) (at starts p) small ∙ ap (at (m .oldest)) b) ∙ ap (λ (x : ℕ). x - 1) (laid .length-at (at (m .oldest) k) (f .0)))) in
-          let own : taskOf script (at (m .oldest) k) ≡ k = follows .waits k below .own (f .0) in
-          subst (ShowsRunning script r p) (sym e′)
-          (task-now p l ∙ (task-free (at (m .task) p) (at (m .left) p) (at starts p) zero-left ∙ b), length-then ∙ ap (λ (x : Job). x .length - 1) (sym (f .1)), rw own-job (f .0), rw own-job own, rw own-job (ap (λ (x : Job). x .release) (sym (f .1))))
-      running-after p l (rests over h e′ same) =
-          let zero-left = free-now p l over in
-          let b : at starts p ≡ mostTasks = starts-so p l zero-left ∙ ap taskOr32 h in
-          subst (ShowsRunning script r p) (sym e′)
-          (task-now p l ∙ (task-free (at (m .task) p) (at (m .left) p) (at starts p) zero-left ∙ b), left-now p l ∙ (left-on (at (m .left) p) lengths _ (at starts p) (omega arith) ∙ omega arith))
-
-      -- a task that does not start keeps what joined
-      kept : (p k : ℕ) → k < n → partitionOf partitions k ≡ p → (at starts p ≡ k → ⊥) → waitingBefore (S p) (patternOf script) (suc t) k ≡ joinedAt t p k
-          → ShowsTask script r (suc t) k (waitingBefore (S p) (patternOf script) (suc t) k)
-      kept p k l e ne same =
-          let ne′ : at starts (partitionOf partitions k) ≡ k → ⊥ = λ z. ne (ap (at starts) (sym e) ∙ z) in
-          same-task {m = between} (oldest-now k l ∙ oldest-on (at (m .oldest) k) next (at starts (partitionOf partitions k)) k ne′) (waiting-now k l ∙ waiting-on (at waiting k) (at starts (partitionOf partitions k)) k ne′) same (shows-joined p k l e)
-
-      -- the oldest job of a task that starts leaves the line
-      starts-then : (p k : ℕ) (j : Job) (js : List Job) → k < n → partitionOf partitions k ≡ p → at starts p ≡ k → joinedAt t p k ≡ j ∷ js → waitingBefore (S p) (patternOf script) (suc t) k ≡ js
-          → ShowsTask script r (suc t) k (waitingBefore (S p) (patternOf script) (suc t) k)
-      starts-then p k j js l e b w w′ =
-          let b′ : at starts (partitionOf partitions k) ≡ k = ap (at starts) e ∙ b in
-          let f = first-of p k j js l w in
-          let o = shows-joined p k l e in
-          let own : taskOf script (at (m .oldest) k) ≡ k = o .own (f .0) in
-          let N : Next script k (suc (at (m .oldest) k)) (at next (at (m .oldest) k)) = rw own at (laid .next-at (at (m .oldest) k) (f .0)) in
-          let next-now : at (r .oldest) k ≡ at next (at (m .oldest) k) = oldest-now k l ∙ oldest-starts (at (m .oldest) k) next (at starts (partitionOf partitions k)) k b′ in
-          rw w′ (record {
-            count = waiting-now k l ∙ (waiting-starts (at waiting k) (at starts (partitionOf partitions k)) k b′ ∙ omega (arith, o .count, ap length w));
-            line = rw next-now (line-passed (given .legal) k (suc (at (m .oldest) k)) (at next (at (m .oldest) k)) js (suc t) (N .from) (N .between) (f .3));
-            started = rw next-now (λ i g q. before i g q (decLt i (at (m .oldest) k)) (decLt (at (m .oldest) k) i) (o .started) (f .2) N);
-            own = rw next-now (N .own);
-            upto = rw next-now (N .upto);
-          })
-        where
-          before : (i : ℕ) → i < at next (at (m .oldest) k) → taskOf script i ≡ k → Dec (i < at (m .oldest) k) → Dec (at (m .oldest) k < i)
-              → ((x : ℕ) → x < at (m .oldest) k → taskOf script x ≡ k → tickOf script x < suc t) → tickOf script (at (m .oldest) k) < suc t
-              → Next script k (suc (at (m .oldest) k)) (at next (at (m .oldest) k)) → tickOf script i < suc t
-          before i g q (yes d) d′ started first N = started i d q
-          before i g q (no d) (yes d′) started first N = absurd (N .between i d′ g q)
-          before i g q (no d) (no d′) started first N = let x : at (m .oldest) k ≡ i = omega arith in rw x at first
-
-      waiting-after : (p k : ℕ) → k < n → partitionOf partitions k ≡ p → p < mostPartitions → TurnOf p → ShowsTask script r (suc t) k (waitingBefore (S p) (patternOf script) (suc t) k)
-      waiting-after p k l e small (goes-on i a x h h′ same) =
-          let o : ShowsRunning script m p (runs i a (suc x)) = subst (ShowsRunning script m p) h (follows .runs-so p small) in
-          kept p k l e (λ z. omega (arith, starts-not p small (λ y. omega (arith, o .1)), given .few)) (same k)
-      waiting-after p k l e small (begins i j js over h below w h′ w′ same) = go (ℕ-discrete k i)
-        where
-          b : at starts p ≡ i
-          b = starts-so p small (free-now p small over) ∙ ap taskOr32 h
-
-          go : Dec (k ≡ i) → ShowsTask script r (suc t) k (waitingBefore (S p) (patternOf script) (suc t) k)
-          go (yes d) = starts-then p k j js l e (b ∙ sym d) (ap (joinedAt t p) d ∙ w) (ap (waitingBefore (S p) (patternOf script) (suc t)) d ∙ w′)
-          go (no d) = kept p k l e (λ z. d (sym z ∙ b)) (same k d)
-      waiting-after p k l e small (rests over h h′ same) =
-          kept p k l e (λ z. omega (arith, starts-so p small (free-now p small over) ∙ ap taskOr32 h, given .few)) (same k)
-
-      pub ticked : Follows table partitions n script r (suc t)
-      ticked =
+  -- what runs goes on
+  pub goes-on-so : 0 < m .left → Follows o b script p (record { tick = suc tick; waiting = mask; oldest = m .oldest; ahead = m .ahead; job = m .job; left = m .left - 1 })
+  goes-on-so more = go (view o (membersOf b p) (patternOf script) tick)
+    where
+      go : View′ → Follows o b script p (record { tick = suc tick; waiting = mask; oldest = m .oldest; ahead = m .ahead; job = m .job; left = m .left - 1 })
+      go (goes-on k a l e e′ same) =
+          let was = subst (ShowsRunning script m) e (follows .runs-so) in
           record {
-            sized = left .sized;
-            waits = λ k l. waiting-after (partitionOf partitions k) k l refl (given .homes k l) (turn-of (partitionOf partitions k));
-            runs-so = λ p l. running-after p l (turn-of p);
+            sized = follows .sized;
+            heads = heads-now;
+            line = λ x known home. subst (λ (js : List Job). InLine script x (oldestOf b m x) js (suc tick)) (sym (same x)) (line-now x known home);
+            marks = marks-now;
+            runs-so = subst (ShowsRunning script (record { tick = suc tick; waiting = mask; oldest = m .oldest; ahead = m .ahead; job = m .job; left = m .left - 1 })) (sym e′) (omega (arith, was .0), was .1, was .2, was .3);
+          }
+      go (begins k j js over below e e′ w′ same up) = absurd (still-runs more over)
+      go (rests over e′ same none) = absurd (still-runs more over)
+
+  -- nothing waits
+  pub rests-so : m .left ≡ 0 → mask ≡ 0 → Follows o b script p (record { tick = suc tick; waiting = mask; oldest = m .oldest; ahead = m .ahead; job = mostRecords; left = m .left })
+  rests-so nothing empty = go (view o (membersOf b p) (patternOf script) tick)
+    where
+      go : View′ → Follows o b script p (record { tick = suc tick; waiting = mask; oldest = m .oldest; ahead = m .ahead; job = mostRecords; left = m .left })
+      go (goes-on k a l e e′ same) = absurd (omega (arith, left-runs k a (suc l) e))
+      go (begins k j js over below e e′ w′ same up) =
+          absurd (omega (arith, waits-bit k j js below (begins-own k _ _ e′) e, ap (λ (x : ℕ). rankBit x (rankOf b k)) empty, bit-none (rankOf b k)))
+      go (rests over e′ same none) =
+          record {
+            sized = follows .sized;
+            heads = heads-now;
+            line = λ x known home. subst (λ (js : List Job). InLine script x (oldestOf b m x) js (suc tick)) (sym (same x)) (line-now x known home);
+            marks = marks-now;
+            runs-so = subst (ShowsRunning script (record { tick = suc tick; waiting = mask; oldest = m .oldest; ahead = m .ahead; job = mostRecords; left = m .left })) (sym e′) (refl, nothing);
           }
 
--- the same, of arrays that stand for an order and a script
-module _ (partitions deadlines : List ℕ) (n : ℕ) (lengths : ℕ → ℕ) (next : List ℕ) (m : Machine) (releases : List ℕ) (so : Ready partitions deadlines n lengths next m releases) where
-  pub ready-waits : (k : ℕ) → k < n → at (m .waiting) k ≤ 1024
-  ready-waits = waits-few (so .table) partitions n (so .script) (so .given) (so .laid .few) (so .follows)
+  -- a member's oldest record that has joined
+  abbrev Joined : ℕ → Type 0
+  Joined k = (k < o .tasks) × (homeOf b k ≡ p) × (oldestOf b m k < mostRecords) × (recordJoins script (oldestOf b m k) < suc tick)
 
-  module _ (waiting chosen starts : List ℕ) (joins : Joined n (m .waiting) releases waiting) (chooses : Chosen partitions deadlines waiting n chosen) (begun : Starts (m .left) chosen starts) where
-    pub ready-starts : (p : ℕ) → p < mostPartitions → at starts p < mostTasks → at (m .oldest) (at starts p) < 1024
-    ready-starts p l small =
-        omega (arith, so .laid .few, starts-ready (so .table) partitions n (so .script) (so .given) m (so .tick) (so .follows) deadlines lengths next releases waiting chosen starts (so .ranks) (so .laid) (so .due) joins chooses begun p l small)
+  -- the one with the lowest rank begins
+  lowest-begins : (k : ℕ) → Joined k → Lowest mask (rankOf b k) → (k′ : ℕ) (j : Job) (js : List Job) → k′ < o .tasks → homeOf b k′ ≡ p → joined k′ ≡ j ∷ js
+      → ((x : ℕ) → x < o .tasks → outranks o x k′ ≡ true → joined x ≡ []) → k′ ≡ k
+  lowest-begins k mine low k′ j js known home e up = go (ℕ-discrete k′ k)
+    where
+      go : Dec (k′ ≡ k) → k′ ≡ k
+      go (yes same) = same
+      go (no other) =
+          ⊎-elim
+          (λ above. absurd (omega (arith, waits-bit k′ j js known home e, low .none-below (rankOf b k′) (outranks-lower seated p k′ k known (mine .0) home (mine .1) above))))
+          (λ below. absurd (bit-waits k (mine .0) (mine .1) (mine .2) (mine .3) (up k (mine .0) below)))
+          (outranks-one o k′ k other)
 
-    pub ready-leaves : (k : ℕ) → k < n → at starts (at partitions k) ≡ k → at (m .oldest) k < 1024
-    ready-leaves k l e =
-        omega (arith, so .laid .few, leaves-ready (so .table) partitions n (so .script) (so .given) m (so .tick) (so .follows) deadlines lengths next releases waiting chosen starts (so .ranks) (so .laid) (so .due) joins chooses begun k l e)
+  -- the machine once the oldest record of rank r has started, where the younger one is the next of its task
+  abbrev started : (r younger left : ℕ) → (stays : Bool) → Machine
+  started r younger left stays =
+      record { tick = suc tick; waiting = pick stays mask (mask - 2 ^ r); oldest = set (m .oldest) r younger; ahead = m .ahead; job = getD (m .oldest) r 0; left = left }
 
-    pub ready-sized : Sized (between (so .table) partitions n (so .script) (so .given) m (so .tick) (so .follows) deadlines lengths next releases waiting chosen starts (so .ranks) (so .laid) (so .due) joins chooses begun)
-    ready-sized =
-        let z = so .follows .sized in
-        record { waiting = joins .places; oldest = z .oldest; task = z .task; job = z .job; left = z .left }
+  abbrev hasJoined : ℕ → Bool
+  hasJoined i = ltb i mostRecords && ltb (recordJoins script i) (suc tick)
 
-    pub ready-follows : (s r : Machine) → Served (record { waiting = waiting; oldest = m .oldest; task = m .task; job = m .job; left = m .left }) starts lengths 32 s
-        → Left s partitions starts next n r → Follows (so .table) partitions n (so .script) r (suc (so .tick))
-    ready-follows s r served left =
-        ticked (so .table) partitions n (so .script) (so .given) m (so .tick) (so .follows) deadlines lengths next releases waiting chosen starts (so .ranks) (so .laid) (so .due) joins chooses begun s r served left
+  module _ (k : ℕ) (mine : Joined k) (low : Lowest mask (rankOf b k)) (younger : ℕ) (next : NextOf (λ x. x) script k (suc (oldestOf b m k)) younger) where
+    abbrev r : ℕ
+    r = rankOf b k
+
+    abbrev h : ℕ
+    h = oldestOf b m k
+
+    abbrev after : ℕ → ℕ
+    after x = getD (set (m .oldest) r younger) (rankOf b x) 0
+
+    r-few : r < mostTasks
+    r-few = omega (arith, seated .ranked k (mine .0), rank-less o (membersOf b (homeOf b k)) k (mine .0), seated .few)
+
+    own : recordTask script h ≡ k
+    own = heads-now k (mine .0) (mine .1) .own (heads-now k (mine .0) (mine .1) .there (mine .2))
+
+    after-own : after k ≡ younger
+    after-own = getD-set-same (m .oldest) r younger 0 (rw (follows .sized) r-few)
+
+    after-other : (x : ℕ) → x < o .tasks → homeOf b x ≡ p → x ≢ k → after x ≡ oldestOf b m x
+    after-other x known home other = getD-set-other (m .oldest) r (rankOf b x) younger 0 (ranks-apart seated p x k known (mine .0) home (mine .1) other)
+
+    heads-then : (x : ℕ) → x < o .tasks → homeOf b x ≡ p → Dec (x ≡ k) → Heads script (suc tick) x (after x)
+    heads-then x known home (yes e) =
+        subst (λ (y : ℕ). Heads script (suc tick) y (after y)) (sym e)
+        (subst (Heads script (suc tick) k) (sym after-own) (heads-next seated k (suc tick) h younger (heads-now k (mine .0) (mine .1)) (mine .3) own next))
+    heads-then x known home (no n) = subst (Heads script (suc tick) x) (sym (after-other x known home n)) (heads-now x known home)
+
+    -- the bit of its rank stays where the younger one has joined
+    marks-then : (stays : Bool) → stays ≡ hasJoined younger → Marks o b script p after (suc tick) (pick stays mask (mask - 2 ^ r))
+    marks-then stays e = record { waits = λ x known home some soon. waits x known home some soon (ℕ-discrete x k) stays e; only-they = λ s bit. only-they s (ℕ-discrete s r) stays e bit }
+      where
+        younger-joined : true ≡ hasJoined younger → (younger < mostRecords) × (recordJoins script younger < suc tick)
+        younger-joined e = let both = and-both (ltb younger mostRecords) _ (sym e) in (ltb-true younger mostRecords (both .0), ltb-true (recordJoins script younger) (suc tick) (both .1))
+
+        others : (x : ℕ) → x < o .tasks → homeOf b x ≡ p → x ≢ k → after x < mostRecords → recordJoins script (after x) < suc tick → rankBit mask (rankOf b x) ≡ 1
+        others x known home other some soon =
+            let same = after-other x known home other in
+            marks-now .waits x known home (omega arith) (omega (arith, ap (recordJoins script) same))
+
+        their : (s : ℕ) → s ≢ r → rankBit mask s ≡ 1
+            → (x : ℕ) × (x < o .tasks) × (homeOf b x ≡ p) × (rankOf b x ≡ s) × (after x < mostRecords) × (recordJoins script (after x) < suc tick)
+        their s other bit =
+            let y = marks-now .only-they s bit in
+            let same = after-other (y .0) (y .1) (y .2) (λ e. other (sym (y .3) ∙ ap (rankOf b) e)) in
+            (y .0, y .1, y .2, y .3, omega (arith, y .4), omega (arith, y .5, ap (recordJoins script) same))
+
+        waits : (x : ℕ) → x < o .tasks → homeOf b x ≡ p → after x < mostRecords → recordJoins script (after x) < suc tick → Dec (x ≡ k) → (stays : Bool) → stays ≡ hasJoined younger
+            → rankBit (pick stays mask (mask - 2 ^ r)) (rankOf b x) ≡ 1
+        waits x known home some soon (yes q) true e = rw q (low .inside)
+        waits x known home some soon (yes q) false e =
+            let same : after x ≡ younger = ap after q ∙ after-own in
+            clash (e ∙ both-and _ _ (lt-ltb younger mostRecords (omega arith)) (lt-ltb (recordJoins script younger) (suc tick) (omega (arith, ap (recordJoins script) same))))
+        waits x known home some soon (no q) true e = others x known home q some soon
+        waits x known home some soon (no q) false e =
+            bit-stays mask r (rankOf b x) (low .inside) (ranks-apart seated p x k known (mine .0) home (mine .1) q) ∙ others x known home q some soon
+
+        only-they : (s : ℕ) → Dec (s ≡ r) → (stays : Bool) → stays ≡ hasJoined younger → rankBit (pick stays mask (mask - 2 ^ r)) s ≡ 1
+            → (x : ℕ) × (x < o .tasks) × (homeOf b x ≡ p) × (rankOf b x ≡ s) × (after x < mostRecords) × (recordJoins script (after x) < suc tick)
+        only-they s (yes q) true e bit = let j = younger-joined e in (k, mine .0, mine .1, sym q, rw after-own (j .0), rw after-own (j .1))
+        only-they s (yes q) false e bit = absurd (omega (arith, ap (rankBit (mask - 2 ^ r)) q, bit-left mask r (low .inside)))
+        only-they s (no q) true e bit = their s q bit
+        only-they s (no q) false e bit = their s q (sym (bit-stays mask r s (low .inside) q) ∙ bit)
+
+    -- what waits of each task then
+    line-then : (x : ℕ) → x < o .tasks → homeOf b x ≡ p → (j : Job) (js : List Job) → joined k ≡ j ∷ js → waitingBefore o (membersOf b p) (patternOf script) (suc tick) k ≡ js
+        → ((y : ℕ) → y ≢ k → waitingBefore o (membersOf b p) (patternOf script) (suc tick) y ≡ joined y) → Dec (x ≡ k)
+        → InLine script x (after x) (waitingBefore o (membersOf b p) (patternOf script) (suc tick) x) (suc tick)
+    line-then x known home j js e w′ same (yes q) =
+        let l = line-first (seated .legal) k h j js (suc tick) (heads-now k (mine .0) (mine .1) .own) (subst (λ (y : List Job). InLine script k h y (suc tick)) e (line-now k (mine .0) (mine .1))) in
+        let passed = line-passed (seated .legal) k (suc h) younger js (suc tick) (next .from) (next .between) (l .3) in
+        subst (λ (y : ℕ). InLine script y (after y) (waitingBefore o (membersOf b p) (patternOf script) (suc tick) y) (suc tick)) (sym q)
+        (subst₂ (λ (y : ℕ) (w : List Job). InLine script k y w (suc tick)) (sym after-own) (sym w′) passed)
+    line-then x known home j js e w′ same (no q) =
+        subst₂ (λ (y : ℕ) (w : List Job). InLine script x y w (suc tick)) (sym (after-other x known home q)) (sym (same x q)) (line-now x known home)
+
+    starts-k : m .left ≡ 0 → (left : ℕ) → left ≡ recordOf script h .duration - 1 → (stays : Bool) → stays ≡ hasJoined younger → Follows o b script p (started r younger left stays)
+    starts-k nothing left e stays f = go (view o (membersOf b p) (patternOf script) tick)
+      where
+        go : View′ → Follows o b script p (started r younger left stays)
+        go (goes-on k′ a l e e′ same) = absurd (omega (arith, left-runs k′ a (suc l) e))
+        go (rests over e′ same none) = absurd (bit-waits k (mine .0) (mine .1) (mine .2) (mine .3) (none k (mine .0)))
+        go (begins k′ j js over below g g′ w′ same up) =
+            let q = lowest-begins k mine low k′ j js below (begins-own k′ _ _ g′) g up in
+            let front : joined k ≡ j ∷ js = subst (λ (y : ℕ). joined y ≡ j ∷ js) q g in
+            let l = line-first (seated .legal) k h j js (suc tick) (heads-now k (mine .0) (mine .1) .own) (subst (λ (y : List Job). InLine script k h y (suc tick)) front (line-now k (mine .0) (mine .1))) in
+            record {
+              sized = length-set (m .oldest) r younger ∙ follows .sized;
+              heads = λ x known home. heads-then x known home (ℕ-discrete x k);
+              line = λ x known home. line-then x known home j js front (ap (waitingBefore o (membersOf b p) (patternOf script) (suc tick)) (sym q) ∙ w′) (λ y n. same y (λ z. n (z ∙ q))) (ℕ-discrete x k);
+              marks = marks-then stays f;
+              runs-so = subst (ShowsRunning script (started r younger left stays)) (sym g′) (omega (arith, e, ap (λ (y : Job). y .duration) (l .1)), l .0, own ∙ sym q, sym (ap (λ (y : Job). y .release) (l .1)));
+            }
+
+    -- besides those that had, only its oldest has started
+    starts-one : (x i : ℕ) → x < o .tasks → homeOf b x ≡ p → i < length script → recordTask script i ≡ x → i < after x → (i < oldestOf b m x) ⊎ (i ≡ h)
+    starts-one x i known home there mine′ below = go (ℕ-discrete x k) (decLt i h) (decLt h i)
+      where
+        go : Dec (x ≡ k) → Dec (i < h) → Dec (h < i) → (i < oldestOf b m x) ⊎ (i ≡ h)
+        go (no q) d d′ = inl (omega (arith, after-other x known home q))
+        go (yes q) (yes l) d′ = inl (omega (arith, ap (oldestOf b m) q))
+        go (yes q) (no l) (yes g) = absurd (next .between i g (omega (arith, ap after q, after-own)) there (mine′ ∙ q))
+        go (yes q) (no l) (no g) = inr (omega arith)
+
+  -- of which the lowest rank is
+  pub whose : (r : ℕ) → Lowest mask r → (k : ℕ) × (rankOf b k ≡ r) × Joined k
+  whose r low = let x = marks-now .only-they r (low .inside) in (x .0, x .3, (x .1, x .2, x .4, x .5))
+
+  -- its oldest record is one of the script
+  pub oldest-there : (r : ℕ) → Lowest mask r → getD (m .oldest) r 0 < length script
+  oldest-there r low =
+      let x = whose r low in
+      subst (λ (y : ℕ). getD (m .oldest) y 0 < length script) (x .1) (heads-now (x .0) (x .2 .0) (x .2 .1) .there (x .2 .2))
+
+  -- the oldest job of the highest-priority waiting member starts
+  pub starts-so : (r : ℕ) → Lowest mask r → m .left ≡ 0 → (younger left : ℕ) (stays : Bool)
+      → NextOf (λ x. x) script (recordTask script (getD (m .oldest) r 0)) (suc (getD (m .oldest) r 0)) younger
+      → left ≡ recordOf script (getD (m .oldest) r 0) .duration - 1 → stays ≡ hasJoined younger
+      → Follows o b script p (started r younger left stays) × StartsOne o b script p m (started r younger left stays)
+  starts-so r low nothing younger left stays next e f = go r (x .1) low next e
+    where
+      x : (k : ℕ) × (rankOf b k ≡ r) × Joined k
+      x = whose r low
+
+      own-is : recordTask script (oldestOf b m (x .0)) ≡ x .0
+      own-is = heads-now (x .0) (x .2 .0) (x .2 .1) .own (heads-now (x .0) (x .2 .0) (x .2 .1) .there (x .2 .2))
+
+      go : (s : ℕ) → rankOf b (x .0) ≡ s → Lowest mask s → NextOf (λ x. x) script (recordTask script (getD (m .oldest) s 0)) (suc (getD (m .oldest) s 0)) younger
+          → left ≡ recordOf script (getD (m .oldest) s 0) .duration - 1
+          → Follows o b script p (started s younger left stays) × StartsOne o b script p m (started s younger left stays)
+      go s q = subst (λ (s : ℕ). Lowest mask s → NextOf (λ x. x) script (recordTask script (getD (m .oldest) s 0)) (suc (getD (m .oldest) s 0)) younger
+          → left ≡ recordOf script (getD (m .oldest) s 0) .duration - 1 → Follows o b script p (started s younger left stays) × StartsOne o b script p m (started s younger left stays)) q
+          (λ low next e.
+          (let its = subst (λ (y : ℕ). NextOf (λ x. x) script y (suc (oldestOf b m (x .0))) younger) own-is next in
+          (starts-k (x .0) (x .2) low younger its nothing left e stays f, starts-one (x .0) (x .2) low younger its)))

@@ -1,3 +1,3 @@
-pub mod Arrays
+pub mod Ranks
 pub mod Lines
 pub mod Follow

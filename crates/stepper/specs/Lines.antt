@@ -1,4 +1,4 @@
--- The records of one task, in line.
+-- The records of a script in line: those of one task, and those of a group of tasks.
 use Prim.Native.Nat.{ℕ, suc, _≤_, _<_}
 use mathlib.Core.Path.{_≡_}
 use mathlib.Core.List.{List, [], _∷_}
@@ -6,34 +6,27 @@ use lib.ListN.{length}
 use Rattle.model.specs.declared.build.Release.{Release}
 use Rattle.model.specs.Limits.{mostRecords}
 use Rattle.machine.specs.Step.{Job, job}
-use Rattle.machine.specs.Pattern.{recordOf}
-use Rattle.stepper.specs.Arrays.{at}
+use Rattle.machine.specs.Pattern.{recordOf, joinsAt}
 
-abbrev pub tickOf : List Release → ℕ → ℕ
-tickOf script i = recordOf script i .tick
+-- the task of record i
+abbrev pub recordTask : List Release → ℕ → ℕ
+recordTask script i = recordOf script i .task
 
-abbrev pub taskOf : List Release → ℕ → ℕ
-taskOf script i = recordOf script i .task
+-- the tick at which record i joins
+abbrev pub recordJoins : List Release → ℕ → ℕ
+recordJoins script i = joinsAt (recordOf script i)
 
-abbrev pub lengthOf : List Release → ℕ → ℕ
-lengthOf script i = recordOf script i .length
-
--- r is the first record of a task from i on, or the number of records if there is none
-pub record Next (script : List Release) (task i r : ℕ) : Type 0 where
+-- r is the first record from i on of a group of tasks, or mostRecords if there is none
+pub record NextOf (group : ℕ → ℕ) (script : List Release) (g i r : ℕ) : Type 0 where
   pub from : i ≤ r
-  pub upto : r ≤ length script
-  pub own : r < length script → taskOf script r ≡ task
-  pub between : (x : ℕ) → i ≤ x → x < r → taskOf script x ≡ task → ⊥
+  pub upto : r ≤ mostRecords
+  pub there : r < mostRecords → r < length script
+  pub own : r < mostRecords → group (recordTask script r) ≡ g
+  pub between : (x : ℕ) → i ≤ x → x < r → x < length script → group (recordTask script x) ≡ g → ⊥
 
--- the jobs are those of the records of a task from i on that were released before a tick, the oldest first
+-- the jobs are those of the records of a task from i on that joined before a tick, the oldest first
 abbrev pub InLine : List Release → (task i : ℕ) → List Job → (tick : ℕ) → Type 0
-InLine script task i [] tick = (x : ℕ) → i ≤ x → x < length script → taskOf script x ≡ task → tick ≤ tickOf script x
+InLine script task i [] tick = (x : ℕ) → i ≤ x → x < length script → recordTask script x ≡ task → tick ≤ recordJoins script x
 InLine script task i (j ∷ younger) tick =
-    (r : ℕ) × (i ≤ r) × (r < length script) × (taskOf script r ≡ task) × ((x : ℕ) → i ≤ x → x < r → taskOf script x ≡ task → ⊥)
-    × (j ≡ job (tickOf script r) (lengthOf script r)) × (tickOf script r < tick) × InLine script task (suc r) younger tick
-
--- a script's records by number: their lengths, and of each the next of its task
-pub record Laid (script : List Release) (lengths : ℕ → ℕ) (next : List ℕ) : Type 0 where
-  pub few : length script ≤ mostRecords
-  pub length-at : (i : ℕ) → i < length script → lengths i ≡ lengthOf script i
-  pub next-at : (i : ℕ) → i < length script → Next script (taskOf script i) (suc i) (at next i)
+    (r : ℕ) × (i ≤ r) × (r < length script) × (recordTask script r ≡ task) × ((x : ℕ) → i ≤ x → x < r → recordTask script x ≡ task → ⊥)
+    × (j ≡ job (recordJoins script r) (recordOf script r .duration)) × (recordJoins script r < tick) × InLine script task (suc r) younger tick

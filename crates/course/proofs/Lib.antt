@@ -1,0 +1,7 @@
+pub mod Lines
+pub mod Gathering
+pub mod Passing
+pub mod Turning
+pub mod Seats
+pub mod Done
+pub mod Prepared
