@@ -20,7 +20,7 @@ use Rattle.machine.specs.Pattern.{joinsAt, patternOf, LegalScript}
 use Rattle.plan.specs.Plan.{Plans}
 use Rattle.inspect.specs.Rules.{checkAnswer}
 use Rattle.agree.proofs.Agree.{planned-is-accepted}
-use Rattle.script.specs.Script.{releaseFields, recordsIn, scriptOf, comesBefore, afterPrevious, earliest, recordRules, scriptRules}
+use Rattle.script.specs.Script.{releaseFields, recordsIn, scriptOf, comesBefore, afterPrevious, earliest, releaseRules, scriptRules}
 use Rattle.finish.specs.Finish.{usedUp, finishFound, finishOf, finishTicks}
 use Rattle.run.specs.Run.{Ran}
 use Rattle.run.proofs.Chain.{script-accepted, ran-on}
@@ -42,7 +42,7 @@ finish = refl
 
 -- 40 to 46 hold
 script-done : (places : ℕ) → 3 ≤ places → firstBroken 3 (scriptRules (sampleOn 4) sampleScript places) ≡ Done 3
-unfolding firstBroken scriptRules recordRules comesBefore afterPrevious earliest recordsIn releaseFields numbersAt laid field bitAt
+unfolding firstBroken scriptRules releaseRules comesBefore afterPrevious earliest recordsIn releaseFields numbersAt laid field bitAt
 script-done places room = rw (le-leb 3 places room)
 
 legal : LegalScript (sampleOn 4) sampleReleases
@@ -55,7 +55,13 @@ module _ (reads : readOrder sampleOrder ≡ record { answer = Done 0; order = sa
   checked = planned-is-accepted sampleOrder sampleBuild (Done 19) sampleBuild 19 plans refl
 
   ran : (output : List ℕ) → 3 ≤ length output → Ran sampleOrder sampleBuild sampleScript output (Done 3) (sampleFinishes ++ drop 3 output)
-  ran output room = ?
+  unfolding recordsIn outputAfter
+  ran output room =
+      let o : orderAt sampleOrder ≡ sampleOn 4 = order-is sampleOrder (sampleOn 4) reads in
+      let answer : Done 3 ≡ firstBroken 3 (scriptRules (orderAt sampleOrder) sampleScript (length output)) = rw o (sym (script-done (length output) room)) in
+      let written : finishTicks (orderAt sampleOrder) (buildAt sampleBuild) (scriptOf sampleScript) ≡ sampleFinishes = rw (o, build-read, script-read) finish in
+      ran-on sampleOrder sampleBuild sampleScript output checked
+      (record { script-answer = answer; script-output = ap (λ (front : List ℕ). outputAfter (Done 3) front output) (sym written) })
 
   pub p9 : P9
   p9 =
