@@ -24,8 +24,8 @@ use Rattle.machine.proofs.Quiet.{at-rest}
 use Rattle.finish.specs.Finish.{finishOf}
 use Rattle.finish.specs.Claims.{Short}
 use Rattle.stepper.specs.declared.Machine.{Machine}
-use Rattle.stepper.specs.Lines.{recordTask, recordJoins, InLine}
-use Rattle.stepper.specs.Follow.{oldestOf, ShowsRunning, Follows, StartsOne, Seated}
+use Rattle.stepper.specs.Lines.{recordTask, recordJoins, JobsInLine}
+use Rattle.stepper.specs.Follow.{oldestOf, ShowsRunning, Follows, StartsOne, LegalRun}
 use Rattle.course.specs.Course.{goesOn, noted, Courses, Turns, Turned, Begins, FinishesNoted}
 use Rattle.course.proofs.Turning.{RunsRecord, job-runs}
 
@@ -35,7 +35,7 @@ pub record NotedSo (o : Order) (b : Build) (script : List Release) (p : ℕ) (m 
   pub started : (i : ℕ) → i < length script → homeOf b (recordTask script i) ≡ p → i < oldestOf b m (recordTask script i) → getD then i 0 ≡ finishOf o b script i
   pub others : (i : ℕ) → (i < length script → homeOf b (recordTask script i) ≡ p → ⊥) → getD then i 0 ≡ getD out i 0
 
-module _ {o : Order} {b : Build} {script : List Release} (seated : Seated o b script) (short : Short script) (p : ℕ) where
+module _ {o : Order} {b : Build} {script : List Release} (legal-run : LegalRun o b script) (short : Short script) (p : ℕ) where
   pub noted-none : (m : Machine) (out : List ℕ)
       → ((i : ℕ) → i < length script → homeOf b (recordTask script i) ≡ p → i < oldestOf b m (recordTask script i) → ⊥) → NotedSo o b script p m out out
   noted-none m out none = record { places = refl; started = λ i there home below. absurd (none i there home below); others = λ i not. refl }
@@ -49,7 +49,7 @@ module _ {o : Order} {b : Build} {script : List Release} (seated : Seated o b sc
       go (no q) =
           rw (le-ltb (r .job) mostRecords (omega arith)) (record {
             places = was .places;
-            started = λ i there home below. ⊎-elim (was .started i there home) (λ e. absurd (omega (arith, seated .few-records))) (turn .starts (recordTask script i) i (seated .legal .known i there) home there refl below);
+            started = λ i there home below. ⊎-elim (was .started i there home) (λ e. absurd (omega (arith, legal-run .few-records))) (turn .starts (recordTask script i) i (legal-run .legal .known i there) home there refl below);
             others = was .others;
           })
       go (yes q) =
@@ -60,7 +60,7 @@ module _ {o : Order} {b : Build} {script : List Release} (seated : Seated o b sc
           })
         where
           run : RunsRecord o b script p r
-          run = job-runs seated short p r (turn .so-far .follows) q
+          run = job-runs legal-run short p r (turn .so-far .follows) q
 
           started : (i : ℕ) → i < length script → homeOf b (recordTask script i) ≡ p → i < oldestOf b r (recordTask script i) → Dec (i ≡ r .job) → getD (set then (r .job) (r .tick + r .left)) i 0 ≡ finishOf o b script i
           started i there home below (yes e) =
@@ -68,7 +68,7 @@ module _ {o : Order} {b : Build} {script : List Release} (seated : Seated o b sc
               (getD-set-same then (r .job) (r .tick + r .left) 0 (omega (arith, run .there, was .places)) ∙ run .finishes)
           started i there home below (no n) =
               getD-set-other then (r .job) i (r .tick + r .left) 0 n
-              ∙ ⊎-elim (was .started i there home) (λ e. absurd (n e)) (turn .starts (recordTask script i) i (seated .legal .known i there) home there refl below)
+              ∙ ⊎-elim (was .started i there home) (λ e. absurd (n e)) (turn .starts (recordTask script i) i (legal-run .legal .known i there) home there refl below)
 
   -- at the end all have started
   pub noted-all : (m : Machine) (out then : List ℕ) → Courses o b script p m → goesOn m ≡ false → NotedSo o b script p m out then → FinishesNoted o b script p out then
@@ -91,20 +91,20 @@ module _ {o : Order} {b : Build} {script : List Release} (seated : Seated o b sc
         where
           go : (r : Running) → runningBefore o (membersOf b p) (patternOf script) (m .tick) ≡ r → runningBefore o (membersOf b p) (patternOf script) (m .tick) ≡ free
           go free e = e
-          go (runs k a l) e = absurd (job-none (omega (arith, subst (ShowsRunning script m) e (so-far .follows .runs-so) .1, seated .few-records)))
+          go (runs k a l) e = absurd (job-none (omega (arith, subst (ShowsRunning script m) e (so-far .follows .runs-so) .1, legal-run .few-records)))
 
       all : (i : ℕ) → i < length script → homeOf b (recordTask script i) ≡ p → i < oldestOf b m (recordTask script i)
       all i there home = go (decLt i (oldestOf b m (recordTask script i)))
         where
           known : recordTask script i < o .tasks
-          known = seated .legal .known i there
+          known = legal-run .legal .known i there
 
           go : Dec (i < oldestOf b m (recordTask script i)) → i < oldestOf b m (recordTask script i)
           go (yes q) = q
           go (no q) =
               let none = at-rest o (membersOf b p) (patternOf script) (m .tick) rest (recordTask script i) known in
-              let late = subst (λ (js : List Job). InLine script (recordTask script i) (oldestOf b m (recordTask script i)) js (m .tick)) none (so-far .follows .line (recordTask script i) known home) i (omega arith) there refl in
-              absurd (omega (arith, late, so-far .ahead .before i (omega (arith, ahead-none, seated .few-records)) there home))
+              let late = subst (λ (js : List Job). JobsInLine script (recordTask script i) (oldestOf b m (recordTask script i)) js (m .tick)) none (so-far .follows .line (recordTask script i) known home) i (omega arith) there refl in
+              absurd (omega (arith, late, so-far .ahead .before i (omega (arith, ahead-none, legal-run .few-records)) there home))
 
 -- a machine in its course has the arrays of the first
 abbrev pub turns-now : {start : Machine} {keys durations ranks next after : List ℕ} {places : ℕ} (so : Begins start keys durations ranks next after places) (m : Machine)

@@ -19,13 +19,13 @@ use Rattle.demand.specs.Priority.{membersOf}
 use Rattle.demand.proofs.Priority.{rank-less}
 use Rattle.stepper.specs.Ranks.{rankBit}
 use Rattle.stepper.specs.Lines.{recordTask, recordJoins, NextOf}
-use Rattle.stepper.specs.Follow.{rankOf, ReleasedIn, Seated}
+use Rattle.stepper.specs.Follow.{rankOf, ReleasedIn, LegalRun}
 use Rattle.stepper.proofs.Ranks.{bit-none, bit-own, bit-other}
 use Rattle.stepper.proofs.Lines.{joins-rise}
 use Rattle.stepper.proofs.Marks.{bit-either, bit-one, bit-two}
 use Rattle.stepper.proofs.Ready.{key-joins}
 use Rattle.course.specs.declared.turns.Gathered.{Gathered}
-use Rattle.course.specs.Ahead.{Ahead, Lined, Gathers, GatheredSo}
+use Rattle.course.specs.Ahead.{Ahead, RunArrays, Gathers, GatheredSo}
 
 -- the records of partition p from one to another are gathered
 pub record GatheredTo (b : Build) (script : List Release) (p from until a ranks : ℕ) : Type 0 where
@@ -58,31 +58,31 @@ module _ {keys ranks after : List ℕ} {from until : ℕ} (so : Gathers keys ran
   joins-before a there e =
       let both = and-both (ltb a 1024) _ e in
       let here = there (ltb-true a 1024 (both .0)) in
-      (here, omega (arith, ltb-true (getD keys a 0 / 32) until (both .1), key-joins (so .lined .seated) (so .lined .laid .held) a here))
+      (here, omega (arith, ltb-true (getD keys a 0 / 32) until (both .1), key-joins (so .lined .legal-run) (so .lined .laid .held) a here))
 
   pub joins-not : (a : ℕ) → (a < mostRecords → a < length (so .script)) → (ltb a 1024 && ltb (getD keys a 0 / 32) until) ≡ false → a < mostRecords → until ≤ recordJoins (so .script) a
   joins-not a there e some = go (decLt (recordJoins (so .script) a) until)
     where
       go : Dec (recordJoins (so .script) a < until) → until ≤ recordJoins (so .script) a
-      go (yes q) = clash (sym e ∙ both-and _ _ (lt-ltb a 1024 some) (lt-ltb _ until (omega (arith, key-joins (so .lined .seated) (so .lined .laid .held) a (there some)))))
+      go (yes q) = clash (sym e ∙ both-and _ _ (lt-ltb a 1024 some) (lt-ltb _ until (omega (arith, key-joins (so .lined .legal-run) (so .lined .laid .held) a (there some)))))
       go (no q) = omega arith
 
   -- a record's task, and its rank
   pub task-here : (a : ℕ) → a < length (so .script) → getD keys a 0 % 32 ≡ recordTask (so .script) a
-  task-here a here = omega (arith, so .lined .laid .held .key a here, so .lined .seated .legal .known a here, so .lined .seated .few)
+  task-here a here = omega (arith, so .lined .laid .held .key a here, so .lined .legal-run .legal .known a here, so .lined .legal-run .few)
 
   pub rank-here : (a : ℕ) → a < length (so .script) → getD ranks (getD keys a 0 % 32) 0 ≡ rankOf (so .build) (recordTask (so .script) a)
-  rank-here a here = ap (λ (k : ℕ). getD ranks k 0) (task-here a here) ∙ so .lined .rank-at (recordTask (so .script) a) (so .lined .seated .legal .known a here)
+  rank-here a here = ap (λ (k : ℕ). getD ranks k 0) (task-here a here) ∙ so .lined .rank-at (recordTask (so .script) a) (so .lined .legal-run .legal .known a here)
 
   -- the next record stands further on
   pub goes-further : (a : ℕ) → a < length (so .script) → (suc a ≤ getD after a 0) × (a < mostRecords)
-  goes-further a here = (so .lined .after-at a here .from, omega (arith, so .lined .seated .few-records))
+  goes-further a here = (so .lined .after-at a here .from, omega (arith, so .lined .legal-run .few-records))
 
   pub rank-few : (a : ℕ) → a < length (so .script) → getD ranks (getD keys a 0 % 32) 0 < 32
   rank-few a here =
       let k = recordTask (so .script) a in
-      let known = so .lined .seated .legal .known a here in
-      omega (arith, rank-here a here, so .lined .seated .ranked k known, rank-less (so .order) (membersOf (so .build) (homeOf (so .build) k)) k known, so .lined .seated .few)
+      let known = so .lined .legal-run .legal .known a here in
+      omega (arith, rank-here a here, so .lined .legal-run .ranked k known, rank-less (so .order) (membersOf (so .build) (homeOf (so .build) k)) k known, so .lined .legal-run .few)
 
   pub gathered-more : (a set : ℕ) → To a set → a < length (so .script) → recordJoins (so .script) a < until
       → To (getD after a 0) (bitOr set (2 ^ rankOf (so .build) (recordTask (so .script) a)))
@@ -101,7 +101,7 @@ module _ {keys ranks after : List ℕ} {from until : ℕ} (so : Gathers keys ran
       r = rankOf (so .build) (recordTask (so .script) a)
 
       mine : homeOf (so .build) (recordTask (so .script) a) ≡ so .partition
-      mine = was .own (omega (arith, so .lined .seated .few-records))
+      mine = was .own (omega (arith, so .lined .legal-run .few-records))
 
       n : NextOf (homeOf (so .build)) (so .script) (homeOf (so .build) (recordTask (so .script) a)) (suc a) (getD after a 0)
       n = so .lined .after-at a here
@@ -141,11 +141,11 @@ module _ {keys ranks after : List ℕ} {from until : ℕ} (so : Gathers keys ran
 
       below : (i : ℕ) → i < length (so .script) → recordJoins (so .script) i < until → Dec (i < a) → i < a
       below i g l (yes q) = q
-      below i g l (no q) = absurd (omega (arith, late (omega (arith, so .lined .seated .few-records)), joins-rise (so .lined .seated .legal) a i (omega arith) g))
+      below i g l (no q) = absurd (omega (arith, late (omega (arith, so .lined .legal-run .few-records)), joins-rise (so .lined .legal-run .legal) a i (omega arith) g))
 
       only : (r : ℕ) → rankBit set r ≡ 1
           → (i : ℕ) × (i < length (so .script)) × (homeOf (so .build) (recordTask (so .script) i) ≡ so .partition) × (so .tick ≤ recordJoins (so .script) i) × (recordJoins (so .script) i < until) × (rankOf (so .build) (recordTask (so .script) i) ≡ r)
       only r e =
           let x = was .only r e in
-          let late′ = so .ahead .late (omega (arith, x .1, x .3, so .lined .seated .few-records)) in
-          (x .0, x .3, x .4, omega (arith, late′, joins-rise (so .lined .seated .legal) from (x .0) (x .1) (x .3)), was .before (x .0) (x .2) (x .3) (x .4), x .5)
+          let late′ = so .ahead .late (omega (arith, x .1, x .3, so .lined .legal-run .few-records)) in
+          (x .0, x .3, x .4, omega (arith, late′, joins-rise (so .lined .legal-run .legal) from (x .0) (x .1) (x .3)), was .before (x .0) (x .2) (x .3) (x .4), x .5)

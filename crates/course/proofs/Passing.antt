@@ -21,8 +21,8 @@ use Rattle.machine.proofs.Work.{theirs-of}
 use Rattle.machine.proofs.Quiet.{runs-unbroken, quiet-ticks}
 use Rattle.machine.proofs.Isolation.{home-member, member-home}
 use Rattle.stepper.specs.declared.Machine.{Machine}
-use Rattle.stepper.specs.Lines.{recordTask, recordJoins, InLine}
-use Rattle.stepper.specs.Follow.{oldestOf, Heads, ShowsRunning, Marks, Follows, ReleasedIn, Seated}
+use Rattle.stepper.specs.Lines.{recordTask, recordJoins, JobsInLine}
+use Rattle.stepper.specs.Follow.{oldestOf, Heads, ShowsRunning, Marks, Follows, ReleasedIn, LegalRun}
 use Rattle.stepper.proofs.Lines.{joins-rise, line-joined, line-quiet, released-none}
 use Rattle.stepper.proofs.Marks.{heads-later, marks-on}
 use Rattle.course.specs.Ahead.{Ahead}
@@ -31,7 +31,7 @@ not-ended : (k a l : ℕ) → ended (runs k a (suc l)) ≡ free → ⊥
 unfolding ended
 not-ended k a l over = let z : _≡_ {A = ℕ} 0 1 = cc over in omega arith
 
-module _ {o : Order} {b : Build} {script : List Release} (seated : Seated o b script) (p : ℕ) (m : Machine) (follows : Follows o b script p m) where
+module _ {o : Order} {b : Build} {script : List Release} (legal-run : LegalRun o b script) (p : ℕ) (m : Machine) (follows : Follows o b script p m) where
   abbrev waiting : ℕ → ℕ → List Job
   waiting = waitingBefore o (membersOf b p) (patternOf script)
 
@@ -40,21 +40,21 @@ module _ {o : Order} {b : Build} {script : List Release} (seated : Seated o b sc
 
   -- a tick in which what runs goes on
   line-step : (t : ℕ) (k : ℕ) → homeOf b k ≡ p → (h : ℕ) → Heads script t k h → (j a l : ℕ) → running t ≡ runs j a (suc l)
-      → InLine script k h (waiting t k) t → InLine script k h (waiting (suc t) k) (suc t)
+      → JobsInLine script k h (waiting t k) t → JobsInLine script k h (waiting (suc t) k) (suc t)
   unfolding joining
   line-step t k home h heads j a l e line = go (view o (membersOf b p) (patternOf script) t)
     where
-      now-line : InLine script k h (joinedBy o (membersOf b p) (patternOf script) t k) (suc t)
+      now-line : JobsInLine script k h (joinedBy o (membersOf b p) (patternOf script) t k) (suc t)
       now-line =
-          subst (λ (x : ℕ). InLine script k h (waiting t k ++ released t x) (suc t)) (sym (theirs-of o (membersOf b p) (patternOf script) t k (home-member b p k home)))
-          (line-joined (seated .legal) k h (waiting t k) t (heads .before) line)
+          subst (λ (x : ℕ). JobsInLine script k h (waiting t k ++ released t x) (suc t)) (sym (theirs-of o (membersOf b p) (patternOf script) t k (home-member b p k home)))
+          (line-joined (legal-run .legal) k h (waiting t k) t (heads .before) line)
 
-      go : ViewAt o (membersOf b p) (patternOf script) t → InLine script k h (waiting (suc t) k) (suc t)
-      go (goes-on x a l g g′ same) = subst (λ (js : List Job). InLine script k h js (suc t)) (sym (same k)) now-line
+      go : ViewAt o (membersOf b p) (patternOf script) t → JobsInLine script k h (waiting (suc t) k) (suc t)
+      go (goes-on x a l g g′ same) = subst (λ (js : List Job). JobsInLine script k h js (suc t)) (sym (same k)) now-line
       go (begins x y js over below g g′ w′ same up) = absurd (not-ended j a l (ap ended (sym e) ∙ over))
       go (rests over g′ same none) = absurd (not-ended j a l (ap ended (sym e) ∙ over))
 
-  line-over : (d k : ℕ) → k < o .tasks → homeOf b k ≡ p → (j a l : ℕ) → running (m .tick) ≡ runs j a l → d ≤ l → InLine script k (oldestOf b m k) (waiting (m .tick + d) k) (m .tick + d)
+  line-over : (d k : ℕ) → k < o .tasks → homeOf b k ≡ p → (j a l : ℕ) → running (m .tick) ≡ runs j a l → d ≤ l → JobsInLine script k (oldestOf b m k) (waiting (m .tick + d) k) (m .tick + d)
   line-over zero k known home j a l e few = rw add-zero (follows .line k known home)
   line-over (suc d) k known home j a l e few =
       let goes : running (m .tick + d) ≡ runs j a (suc (l - suc d)) = runs-unbroken o (membersOf b p) (patternOf script) (m .tick) d j a l e (omega arith) ∙ ap (runs j a) (omega arith) in
@@ -65,14 +65,14 @@ module _ {o : Order} {b : Build} {script : List Release} (seated : Seated o b sc
   passed tick releases ahead = record { tick = tick; waiting = bitOr (m .waiting) releases; oldest = m .oldest; ahead = ahead; job = m .job; left = 0 }
 
   follows-then : (tick releases ahead : ℕ) → m .tick ≤ tick → ReleasedIn b script p (m .tick) tick releases
-      → ((k : ℕ) → k < o .tasks → homeOf b k ≡ p → InLine script k (oldestOf b m k) (waiting tick k) tick)
+      → ((k : ℕ) → k < o .tasks → homeOf b k ≡ p → JobsInLine script k (oldestOf b m k) (waiting tick k) tick)
       → ShowsRunning script (passed tick releases ahead) (running tick) → Follows o b script p (passed tick releases ahead)
   follows-then tick releases ahead later due line run =
       record {
         sized = follows .sized;
         heads = λ k known home. heads-later later (follows .heads k known home);
         line = line;
-        marks = marks-on seated p (oldestOf b m) (m .tick) tick (m .waiting) releases later (follows .heads) (follows .marks) due;
+        marks = marks-on legal-run p (oldestOf b m) (m .tick) tick (m .waiting) releases later (follows .heads) (follows .marks) due;
         runs-so = run;
       }
 
@@ -95,6 +95,6 @@ module _ {o : Order} {b : Build} {script : List Release} (seated : Seated o b sc
       (subst (Lasts d) (sym e) tt) in
       let rest : running (m .tick + d) ≡ free = ap (λ (s : State). s .running) same ∙ ap (lowered d) e in
       follows-then (m .tick + d) releases ahead (omega arith) due
-      (λ k known home. subst (λ (w : List Job). InLine script k (oldestOf b m k) w (m .tick + d)) (sym (ap (λ (s : State). s .waiting k) same))
+      (λ k known home. subst (λ (w : List Job). JobsInLine script k (oldestOf b m k) w (m .tick + d)) (sym (ap (λ (s : State). s .waiting k) same))
       (line-quiet script (m .tick) (m .tick + d) k (oldestOf b m k) (waiting (m .tick) k) (omega arith) (λ i there own from. quiet i there (ap (homeOf b) own ∙ home) from) (follows .line k known home)))
       (subst (ShowsRunning script (passed (m .tick + d) releases ahead)) (sym rest) (was .0, refl))

@@ -20,10 +20,10 @@ use Rattle.finish.specs.Finish.{finishOf, finishTicks}
 use Rattle.finish.specs.Claims.{Short}
 use Rattle.stepper.specs.declared.Machine.{Machine}
 use Rattle.stepper.specs.Lines.{recordTask, recordJoins, NextOf}
-use Rattle.stepper.specs.Follow.{rankOf, oldestOf, Heads, Marks, Follows, Seated, Laid}
+use Rattle.stepper.specs.Follow.{rankOf, oldestOf, Heads, Marks, Follows, LegalRun, Chained}
 use Rattle.stepper.proofs.Ranks.{bit-none}
 use Rattle.stepper.proofs.Above.{ranks-apart}
-use Rattle.course.specs.Ahead.{Ahead, Grouped, LinedUp, Lined, Seats, seatsOf}
+use Rattle.course.specs.Ahead.{Ahead, Grouped, LinedUp, RunArrays, Seats, seatsOf}
 use Rattle.course.specs.Course.{Courses, Turns, Begins, FinishesNoted, Runnable}
 use Rattle.course.proofs.Seats.{length-seats, seats-at}
 
@@ -31,7 +31,7 @@ use Rattle.course.proofs.Seats.{length-seats, seats-at}
 abbrev pub first-machine : (oldest : List ℕ) → (ahead : ℕ) → Machine
 first-machine oldest ahead = record { tick = 0; waiting = 0; oldest = oldest; ahead = ahead; job = mostRecords; left = 0 }
 
-module _ {o : Order} {b : Build} {script : List Release} (seated : Seated o b script) (p : ℕ) (oldest : List ℕ) (ahead : ℕ) (places : length oldest ≡ mostTasks)
+module _ {o : Order} {b : Build} {script : List Release} (legal-run : LegalRun o b script) (p : ℕ) (oldest : List ℕ) (ahead : ℕ) (places : length oldest ≡ mostTasks)
     (oldest-at : (k : ℕ) → k < o .tasks → homeOf b k ≡ p → NextOf (λ x. x) script k 0 (getD oldest (rankOf b k) 0)) (ahead-at : NextOf (homeOf b) script p 0 ahead) where
   pub first-follows : Follows o b script p (first-machine oldest ahead)
   unfolding stateBefore
@@ -40,7 +40,7 @@ module _ {o : Order} {b : Build} {script : List Release} (seated : Seated o b sc
         sized = places;
         heads = λ k known home.
             (let n = oldest-at k known home in
-            record { there = n .there; own = λ l. n .own (omega (arith, seated .few-records)); before = λ i l g e. absurd (n .between i (omega arith) l g e) });
+            record { there = n .there; own = λ l. n .own (omega (arith, legal-run .few-records)); before = λ i l g e. absurd (n .between i (omega arith) l g e) });
         line = λ k known home. λ x from there own. omega arith;
         marks = record { waits = λ k known home some soon. absurd (omega arith); only-they = λ r e. absurd (omega (arith, bit-none r)) };
         runs-so = (refl, refl);
@@ -62,7 +62,7 @@ module _ {o : Order} {b : Build} {script : List Release} (seated : Seated o b sc
 
 -- the numbers that the run reads, for an order, a build and a script
 pub record Prepared (o : Order) (b : Build) (script : List Release) (keys durations homes ranks next after oldest first : List ℕ) (tasks partitions places : ℕ) : Type 0 where
-  pub lined : Lined o b script keys durations ranks next after
+  pub lined : RunArrays o b script keys durations ranks next after
   pub short : Short script
   pub count : tasks ≡ o .tasks
   pub home-places : length homes ≡ mostTasks
@@ -74,8 +74,8 @@ pub record Prepared (o : Order) (b : Build) (script : List Release) (keys durati
   pub room : length script ≤ places
 
 module _ {o : Order} {b : Build} {records : ℕ} {keys durations : List ℕ} {places : ℕ} (so : Runnable o b records keys durations places) where
-  seated-so : Seated o b (so .script)
-  seated-so = record { few = so .few; ranked = so .ranked; legal = so .legal; few-records = so .held .few }
+  legal-run-so : LegalRun o b (so .script)
+  legal-run-so = record { few = so .few; ranked = so .ranked; legal = so .legal; few-records = so .held .few }
 
   pub task-of-key : (i : ℕ) → i < length (so .script) → getD keys i 0 % 32 ≡ recordTask (so .script) i
   task-of-key i here = omega (arith, so .held .key i here, so .legal .known i here, so .few)
@@ -119,7 +119,7 @@ module _ {o : Order} {b : Build} {records : ℕ} {keys durations : List ℕ} {pl
     prepared next after oldest first by-task by-home =
         record {
           lined = record {
-            seated = seated-so;
+            legal-run = legal-run-so;
             laid = record { held = so .held; places = by-task .places; next-at = by-task .next-at };
             rank-places = rw is-ranks (length-filled (λ k. getD (b .members) k zeroMember .rank) 0 mostTasks tasks few-tasks);
             rank-at = λ k known. rw is-ranks (filled-in (λ k. getD (b .members) k zeroMember .rank) 0 mostTasks tasks k (omega arith));
@@ -142,12 +142,12 @@ module _ {o : Order} {b : Build} {script : List Release} {keys durations homes r
   rank-few : (k : ℕ) → k < tasks → getD ranks k 0 < mostTasks
   rank-few k below =
       let known : k < o .tasks = omega (arith, so .count) in
-      omega (arith, so .lined .rank-at k known, so .lined .seated .ranked k known, rank-less o (membersOf b (homeOf b k)) k known, so .lined .seated .few)
+      omega (arith, so .lined .rank-at k known, so .lined .legal-run .ranked k known, rank-less o (membersOf b (homeOf b k)) k known, so .lined .legal-run .few)
 
   pub seats : Seats oldest homes ranks tasks
   seats =
       record {
-        few = omega (arith, so .count, so .lined .seated .few);
+        few = omega (arith, so .count, so .lined .legal-run .few);
         first-places = so .by-task .first-places;
         home-places = so .home-places;
         rank-places = so .lined .rank-places;
@@ -163,7 +163,7 @@ module _ {o : Order} {b : Build} {script : List Release} {keys durations homes r
         go (no n) =
             let known : x < o .tasks = omega (arith, so .count) in
             let known′ : y < o .tasks = omega (arith, so .count) in
-            absurd (ranks-apart (so .lined .seated) p x y known known′ (sym (so .home-at x known) ∙ home) (sym (so .home-at y known′) ∙ home′) n (sym (so .lined .rank-at x known) ∙ same ∙ so .lined .rank-at y known′))
+            absurd (ranks-apart (so .lined .legal-run) p x y known known′ (sym (so .home-at x known) ∙ home) (sym (so .home-at y known′) ∙ home′) n (sym (so .lined .rank-at x known) ∙ same ∙ so .lined .rank-at y known′))
 
     abbrev pub heads : List ℕ
     heads = seatsOf oldest homes ranks p tasks
@@ -175,15 +175,15 @@ module _ {o : Order} {b : Build} {script : List Release} {keys durations homes r
 
     pub courses : Courses o b script p (first-machine heads (getD first p 0))
     courses =
-        first-courses (so .lined .seated) p heads (getD first p 0) (length-seats oldest homes ranks p tasks)
-        (λ k known home. rw (heads-are k known home) (so .by-task .first-at k (omega (arith, so .lined .seated .few))))
+        first-courses (so .lined .legal-run) p heads (getD first p 0) (length-seats oldest homes ranks p tasks)
+        (λ k known home. rw (heads-are k known home) (so .by-task .first-at k (omega (arith, so .lined .legal-run .few))))
         (so .by-home .first-at p (omega (arith, so .few-partitions)))
 
     pub none-started : (i : ℕ) → i < length script → homeOf b (recordTask script i) ≡ p → i < oldestOf b (first-machine heads (getD first p 0)) (recordTask script i) → ⊥
     none-started i there home early =
         let k = recordTask script i in
-        let known = so .lined .seated .legal .known i there in
-        so .by-task .first-at k (omega (arith, so .lined .seated .few)) .between i (omega arith) (omega (arith, heads-are k known home)) there refl
+        let known = so .lined .legal-run .legal .known i there in
+        so .by-task .first-at k (omega (arith, so .lined .legal-run .few)) .between i (omega arith) (omega (arith, heads-are k known home)) there refl
 
     abbrev pub begins : (m : Machine) → m ≡ first-machine heads (getD first p 0) → (places′ : ℕ) → places′ ≡ places → Begins m keys durations ranks next after places′
     begins m e places′ same =

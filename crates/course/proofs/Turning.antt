@@ -29,11 +29,11 @@ use Rattle.finish.specs.Claims.{Short, FinishesAt, latest}
 use Rattle.finish.proofs.Finish.{every-job-finishes}
 use Rattle.stepper.specs.declared.Machine.{Machine}
 use Rattle.stepper.specs.Lines.{recordTask, recordJoins}
-use Rattle.stepper.specs.Follow.{ShowsRunning, Follows, StartsOne, ReleasedIn, Seated, Ready}
+use Rattle.stepper.specs.Follow.{ShowsRunning, Follows, StartsOne, ReleasedIn, LegalRun, Ready}
 use Rattle.stepper.proofs.Lines.{joins-rise}
 use Rattle.stepper.proofs.Ready.{key-joins}
 use Rattle.course.specs.declared.turns.Gathered.{Gathered}
-use Rattle.course.specs.Ahead.{Ahead, Lined, Gathers, GatheredSo}
+use Rattle.course.specs.Ahead.{Ahead, RunArrays, Gathers, GatheredSo}
 use Rattle.course.specs.Course.{goesOn, eventOf, Courses, Turns, Turned}
 use Rattle.course.proofs.Passing.{passes-running, passes-free}
 
@@ -44,7 +44,7 @@ pub record RunsRecord (o : Order) (b : Build) (script : List Release) (p : ℕ) 
   pub finishes : m .tick + m .left ≡ finishOf o b script (m .job)
   pub in-time : m .tick + m .left ≤ latest
 
-module _ {o : Order} {b : Build} {script : List Release} (seated : Seated o b script) (short : Short script) (p : ℕ) (m : Machine) (follows : Follows o b script p m) where
+module _ {o : Order} {b : Build} {script : List Release} (legal-run : LegalRun o b script) (short : Short script) (p : ℕ) (m : Machine) (follows : Follows o b script p m) where
   abbrev running : Running
   running = runningBefore o (membersOf b p) (patternOf script) (m .tick)
 
@@ -59,7 +59,7 @@ module _ {o : Order} {b : Build} {script : List Release} (seated : Seated o b sc
       let at : FinishesAt o b script (m .job) (m .tick + l) =
       subst (λ (q : ℕ). runningBefore o (membersOf b q) (patternOf script) (m .tick + l) ≡ runs (recordTask script (m .job)) (recordOf script (m .job) .tick) 0) (sym here)
       (ends ∙ ap (λ (x : ℕ). runs x a 0) (sym (was .2)) ∙ ap (λ (x : ℕ). runs (recordTask script (m .job)) x 0) (sym (was .3) ∙ joins-at (recordOf script (m .job)))) in
-      let every = every-job-finishes o b script (seated .legal) short (m .job) (was .1) in
+      let every = every-job-finishes o b script (legal-run .legal) short (m .job) (was .1) in
       let one = finishes-once o b (patternOf script) (recordTask script (m .job)) (recordOf script (m .job) .tick) (m .tick + l) (finishOf o b script (m .job)) at (every .finishes) in
       record { there = was .1; home = here; finishes = omega (arith, was .0, one); in-time = omega (arith, was .0, one, every .in-time) }
 
@@ -88,7 +88,7 @@ module _ {m : Machine} {keys durations ranks next after : List ℕ} (so : Turns 
   unfolding eventOf
   event-runs k a l e =
       let was = subst (ShowsRunning (so .script) m) e (so .so-far .follows .runs-so) in
-      is-event ∙ rw (lt-ltb (m .job) mostRecords (omega (arith, was .1, so .lined .seated .few-records))) (ap (m .tick +_) (was .0))
+      is-event ∙ rw (lt-ltb (m .job) mostRecords (omega (arith, was .1, so .lined .legal-run .few-records))) (ap (m .tick +_) (was .0))
 
   is-ahead : state ≡ free → goesOn m ≡ true → m .ahead < mostRecords
   unfolding goesOn
@@ -100,7 +100,7 @@ module _ {m : Machine} {keys durations ranks next after : List ℕ} (so : Turns 
   unfolding eventOf
   event-free e some =
       let was = subst (ShowsRunning (so .script) m) e (so .so-far .follows .runs-so) in
-      is-event ∙ rw (le-ltb (m .job) mostRecords (omega (arith, was .0))) (key-joins (so .lined .seated) (so .lined .laid .held) (m .ahead) (so .so-far .ahead .there some))
+      is-event ∙ rw (le-ltb (m .job) mostRecords (omega (arith, was .0))) (key-joins (so .lined .legal-run) (so .lined .laid .held) (m .ahead) (so .so-far .ahead .there some))
 
   -- no record of the partition joins between the tick and that
   joined-later : m .ahead < mostRecords → (i : ℕ) → i < length (so .script) → homeOf (so .build) (recordTask (so .script) i) ≡ so .partition → m .tick ≤ recordJoins (so .script) i
@@ -109,7 +109,7 @@ module _ {m : Machine} {keys durations ranks next after : List ℕ} (so : Turns 
     where
       go : Dec (i < m .ahead) → recordJoins (so .script) (m .ahead) ≤ recordJoins (so .script) i
       go (yes q) = absurd (omega (arith, so .so-far .ahead .before i q there home))
-      go (no q) = joins-rise (so .lined .seated .legal) (m .ahead) i (omega arith) there
+      go (no q) = joins-rise (so .lined .legal-run .legal) (m .ahead) i (omega arith) there
 
   module _ (on : goesOn m ≡ true) where
     pub event-later : m .tick ≤ event
@@ -127,7 +127,7 @@ module _ {m : Machine} {keys durations ranks next after : List ℕ} (so : Turns 
             let some = is-ahead e on in
             omega (arith, event-free e some, joins-at (recordOf (so .script) (m .ahead)), so .short .early (m .ahead) (so .so-far .ahead .there some))
         go (runs k a l) e =
-            omega (arith, event-runs k a l e, runs-record (so .lined .seated) (so .short) (so .partition) m (so .so-far .follows) k a l e .in-time, subst (ShowsRunning (so .script) m) e (so .so-far .follows .runs-so) .0)
+            omega (arith, event-runs k a l e, runs-record (so .lined .legal-run) (so .short) (so .partition) m (so .so-far .follows) k a l e .in-time, subst (ShowsRunning (so .script) m) e (so .so-far .follows .runs-so) .0)
 
     abbrev pub gathers-before : Gathers keys ranks after (m .ahead) event
     gathers-before =
@@ -173,12 +173,12 @@ module _ {m : Machine} {keys durations ranks next after : List ℕ} (so : Turns 
             let at = event-free e some in
             let same : m .tick + (event - m .tick) ≡ event = omega (arith, event-later) in
             subst Then same
-            (passes-free (so .lined .seated) (so .partition) m (so .so-far .follows) (event - m .tick) (before .ranks) ahead e
+            (passes-free (so .lined .legal-run) (so .partition) m (so .so-far .follows) (event - m .tick) (before .ranks) ahead e
             (λ i there home late. omega (arith, at, joined-later some i there home late))
             (subst (λ (u : ℕ). ReleasedIn (so .build) (so .script) (so .partition) (m .tick) u (before .ranks)) (sym same) (is .due)))
         go (runs k a l) e =
             subst Then (sym (event-runs k a l e))
-            (passes-running (so .lined .seated) (so .partition) m (so .so-far .follows) k a l (before .ranks) ahead e
+            (passes-running (so .lined .legal-run) (so .partition) m (so .so-far .follows) k a l (before .ranks) ahead e
             (subst (λ (u : ℕ). ReleasedIn (so .build) (so .script) (so .partition) (m .tick) u (before .ranks)) (event-runs k a l e) (is .due)))
 
     -- the machine at the event
@@ -194,7 +194,7 @@ module _ {m : Machine} {keys durations ranks next after : List ℕ} (so : Turns 
             build = so .build;
             script = so .script;
             partition = so .partition;
-            seated = so .lined .seated;
+            legal-run = so .lined .legal-run;
             laid = so .lined .laid;
             follows = passes-so before is (due .ahead);
             due = subst (λ (u : ℕ). ReleasedIn (so .build) (so .script) (so .partition) event u (due .ranks)) (add-one event) (is-due .due);

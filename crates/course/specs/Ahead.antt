@@ -11,7 +11,7 @@ use Rattle.model.specs.declared.build.Release.{Release}
 use Rattle.model.specs.Limits.{mostTasks, mostRecords, homeOf}
 use Rattle.script.specs.Held.{Held}
 use Rattle.stepper.specs.Lines.{recordTask, recordJoins, NextOf}
-use Rattle.stepper.specs.Follow.{rankOf, Seated, ReleasedIn, Laid}
+use Rattle.stepper.specs.Follow.{rankOf, LegalRun, ReleasedIn, Chained}
 use Rattle.course.specs.declared.turns.Gathered.{Gathered}
 
 -- record a is partition p's first that joins at a tick or later, or mostRecords if there is none
@@ -43,9 +43,9 @@ pub record LinedUp (group : ℕ → ℕ) (script : List Release) (first next : L
   pub next-at : (i : ℕ) → i < length script → NextOf group script (group (recordTask script i)) (suc i) (getD next i 0)
 
 -- the arrays stand for an order, a build and a legal script: each task's rank, each record's next of its task and of its partition
-pub record Lined (o : Order) (b : Build) (script : List Release) (keys durations ranks next after : List ℕ) : Type 0 where
-  pub seated : Seated o b script
-  pub laid : Laid script keys durations next
+pub record RunArrays (o : Order) (b : Build) (script : List Release) (keys durations ranks next after : List ℕ) : Type 0 where
+  pub legal-run : LegalRun o b script
+  pub laid : Chained script keys durations next
   pub rank-places : length ranks ≡ mostTasks
   pub rank-at : (k : ℕ) → k < o .tasks → getD ranks k 0 ≡ rankOf b k
   pub after-places : length after ≡ mostRecords
@@ -73,7 +73,7 @@ pub record Gathers (keys ranks after : List ℕ) (from until : ℕ) : Type 0 whe
   pub tick : ℕ
   pub durations : List ℕ
   pub next : List ℕ
-  pub lined : Lined order build script keys durations ranks next after
+  pub lined : RunArrays order build script keys durations ranks next after
   pub ahead : Ahead build script partition tick from
   pub on : tick ≤ until
 

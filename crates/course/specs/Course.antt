@@ -19,7 +19,7 @@ use Rattle.finish.specs.Claims.{Short, latest}
 use Rattle.stepper.specs.declared.Machine.{Machine}
 use Rattle.stepper.specs.Lines.{recordTask, recordJoins}
 use Rattle.stepper.specs.Follow.{rankOf, oldestOf, Follows, StartsOne}
-use Rattle.course.specs.Ahead.{Ahead, Lined}
+use Rattle.course.specs.Ahead.{Ahead, RunArrays}
 
 -- a job runs, or a record is still to join
 unfoldable pub goesOn : Machine → Bool
@@ -45,7 +45,7 @@ pub record Turns (m : Machine) (keys durations ranks next after : List ℕ) : Ty
   pub build : Build
   pub script : List Release
   pub partition : ℕ
-  pub lined : Lined order build script keys durations ranks next after
+  pub lined : RunArrays order build script keys durations ranks next after
   pub short : Short script
   pub so-far : Courses order build script partition m
 

@@ -19,7 +19,7 @@ use Rattle.model.specs.Limits.{homeOf}
 use Rattle.demand.specs.Priority.{Members, membersOf, outranks, higher, rank}
 use Rattle.demand.proofs.Priority.{outranks-one, outranks-chain, higher-self}
 use Rattle.machine.proofs.Isolation.{home-member}
-use Rattle.stepper.specs.Follow.{rankOf, Seated}
+use Rattle.stepper.specs.Follow.{rankOf, LegalRun}
 
 module _ (o : Order) (member : Members) where
   above-counts : (m k : ℕ) → member m ≡ true → outranks o m k ≡ true → (j : ℕ) → only (eqb j m || higher o member m j) 1 ≤ only (higher o member k j) 1
@@ -44,14 +44,14 @@ module _ (o : Order) (member : Members) where
         sum-le (λ j. only (eqb j m || higher o member m j) 1) (λ j. only (higher o member k j) 1) (o .tasks) (λ j l. above-counts m k mine above j),
       )
 
-module _ {o : Order} {b : Build} {script : List Release} (seated : Seated o b script) where
+module _ {o : Order} {b : Build} {script : List Release} (legal-run : LegalRun o b script) where
   pub outranks-lower : (p m k : ℕ) → m < o .tasks → k < o .tasks → homeOf b m ≡ p → homeOf b k ≡ p → outranks o m k ≡ true → rankOf b m < rankOf b k
   outranks-lower p m k known known′ home home′ above =
       omega (
         arith,
         rank-above o (membersOf b p) m k known (home-member b p m home) above,
-        seated .ranked m known,
-        seated .ranked k known′,
+        legal-run .ranked m known,
+        legal-run .ranked k known′,
         ap (λ (q : ℕ). rank o (membersOf b q) m) home,
         ap (λ (q : ℕ). rank o (membersOf b q) k) home′,
       )

@@ -11,7 +11,7 @@ use Rattle.model.specs.declared.build.Release.{Release}
 use Rattle.machine.specs.Step.{Job, job, released}
 use Rattle.machine.specs.Pattern.{recordOf, patternOf, Before, LegalScript}
 use Rattle.machine.proofs.Script.{joins-at, pattern-some, legal-script-is-legal}
-use Rattle.stepper.specs.Lines.{recordTask, recordJoins, InLine}
+use Rattle.stepper.specs.Lines.{recordTask, recordJoins, JobsInLine}
 
 -- what the pattern of a script gives at a tick
 pub released-none : (script : List Release) (tick task : ℕ) → ((i : ℕ) → i < length script → recordTask script i ≡ task → recordJoins script i ≡ tick → ⊥) → patternOf script tick task ≡ 0
@@ -47,7 +47,7 @@ module _ {o : Order} {script : List Release} (legal : LegalScript o script) wher
 
   module _ (k : ℕ) where
     line-stays : (h : ℕ) (js : List Job) (t : ℕ) → ((i : ℕ) → i < length script → recordTask script i ≡ k → recordJoins script i ≡ t → ⊥)
-        → InLine script k h js t → InLine script k h js (suc t)
+        → JobsInLine script k h js t → JobsInLine script k h js (suc t)
     line-stays h [] t z l = λ i g g′ e. after i g g′ e (decLt t (recordJoins script i))
       where
         after : (i : ℕ) → h ≤ i → i < length script → recordTask script i ≡ k → Dec (t < recordJoins script i) → suc t ≤ recordJoins script i
@@ -56,8 +56,8 @@ module _ {o : Order} {script : List Release} (legal : LegalScript o script) wher
     line-stays h (j ∷ js) t z l = (l .0, l .1, l .2, l .3, l .4, l .5, omega (arith, l .6), line-stays (suc (l .0)) js t z (l .7))
 
     line-snoc : (h : ℕ) (js : List Job) (i t : ℕ) → i < length script → recordTask script i ≡ k → recordJoins script i ≡ t
-        → ((x : ℕ) → x < h → x < length script → recordTask script x ≡ k → recordJoins script x < t) → InLine script k h js t
-        → InLine script k h (js ++ (job t (recordOf script i .duration) ∷ [])) (suc t)
+        → ((x : ℕ) → x < h → x < length script → recordTask script x ≡ k → recordJoins script x < t) → JobsInLine script k h js t
+        → JobsInLine script k h (js ++ (job t (recordOf script i .duration) ∷ [])) (suc t)
     line-snoc h [] i t g e s started l =
         (i, after (decLe h i), g, e, (λ x y y′ q. omega (arith, l x y (omega arith) q, joins-later x i y′ g (q ∙ sym e))), ap (λ (a : ℕ). job a (recordOf script i .duration)) (sym s), omega arith, λ x y y′ q. omega (arith, joins-later i x y y′ (e ∙ sym q)))
       where
@@ -73,12 +73,12 @@ module _ {o : Order} {script : List Release} (legal : LegalScript o script) wher
         before x y z q (no d) (no d′) = let s : l .0 ≡ x = omega arith in rw s at (l .6)
 
     -- the release of the tick joins
-    pub line-joined : (h : ℕ) (js : List Job) (t : ℕ) → ((x : ℕ) → x < h → x < length script → recordTask script x ≡ k → recordJoins script x < t) → InLine script k h js t
-        → InLine script k h (js ++ released t (patternOf script t k)) (suc t)
+    pub line-joined : (h : ℕ) (js : List Job) (t : ℕ) → ((x : ℕ) → x < h → x < length script → recordTask script x ≡ k → recordJoins script x < t) → JobsInLine script k h js t
+        → JobsInLine script k h (js ++ released t (patternOf script t k)) (suc t)
     unfolding released
     line-joined h js t started l = go (patternOf script t k) refl
       where
-        go : (x : ℕ) → patternOf script t k ≡ x → InLine script k h (js ++ released t x) (suc t)
+        go : (x : ℕ) → patternOf script t k ≡ x → JobsInLine script k h (js ++ released t x) (suc t)
         go zero e = rw append-nil (line-stays h js t (λ i g q q′. omega (arith, released-at i t k g q′ q, legal .durations i g)) l)
         go (suc x) e =
             let r = pattern-some script t k (omega arith) in
@@ -86,7 +86,7 @@ module _ {o : Order} {script : List Release} (legal : LegalScript o script) wher
             rw (← b) (line-snoc h js (r .0) t (r .1) (r .2 .1) (r .2 .0) started l)
 
     -- a part without a record of k is passed over
-    pub line-passed : (h h′ : ℕ) (js : List Job) (t : ℕ) → h ≤ h′ → ((x : ℕ) → h ≤ x → x < h′ → x < length script → recordTask script x ≡ k → ⊥) → InLine script k h js t → InLine script k h′ js t
+    pub line-passed : (h h′ : ℕ) (js : List Job) (t : ℕ) → h ≤ h′ → ((x : ℕ) → h ≤ x → x < h′ → x < length script → recordTask script x ≡ k → ⊥) → JobsInLine script k h js t → JobsInLine script k h′ js t
     line-passed h h′ [] t g z l = λ i x. l i (omega arith)
     line-passed h h′ (j ∷ js) t g z l = (l .0, after (decLe h′ (l .0)), l .2, l .3, (λ x y. l .4 x (omega arith)), l .5, l .6, l .7)
       where
@@ -95,11 +95,11 @@ module _ {o : Order} {script : List Release} (legal : LegalScript o script) wher
         after (no d) = absurd (z (l .0) (l .1) (omega arith) (l .2) (l .3))
 
     -- the first in line is record h, where h is a record of k or past the last
-    pub line-first : (h : ℕ) (j : Job) (js : List Job) (t : ℕ) → (h < length script → recordTask script h ≡ k) → InLine script k h (j ∷ js) t
-        → (h < length script) × (j ≡ job (recordJoins script h) (recordOf script h .duration)) × (recordJoins script h < t) × InLine script k (suc h) js t
+    pub line-first : (h : ℕ) (j : Job) (js : List Job) (t : ℕ) → (h < length script → recordTask script h ≡ k) → JobsInLine script k h (j ∷ js) t
+        → (h < length script) × (j ≡ job (recordJoins script h) (recordOf script h .duration)) × (recordJoins script h < t) × JobsInLine script k (suc h) js t
     line-first h j js t own l =
         let s : l .0 ≡ h = same (decLt h (l .0)) in
-        subst (λ (x : ℕ). (x < length script) × (j ≡ job (recordJoins script x) (recordOf script x .duration)) × (recordJoins script x < t) × InLine script k (suc x) js t) s (l .2, l .5, l .6, l .7)
+        subst (λ (x : ℕ). (x < length script) × (j ≡ job (recordJoins script x) (recordOf script x .duration)) × (recordJoins script x < t) × JobsInLine script k (suc x) js t) s (l .2, l .5, l .6, l .7)
       where
         same : Dec (h < l .0) → l .0 ≡ h
         same (yes d) = absurd (l .4 h (omega arith) d (own (omega (arith, l .2))))
@@ -107,6 +107,6 @@ module _ {o : Order} {script : List Release} (legal : LegalScript o script) wher
 
 -- nothing of a task joins from a tick up to another
 pub line-quiet : (script : List Release) (t e k h : ℕ) (js : List Job) → t ≤ e → ((i : ℕ) → i < length script → recordTask script i ≡ k → t ≤ recordJoins script i → e ≤ recordJoins script i)
-    → InLine script k h js t → InLine script k h js e
+    → JobsInLine script k h js t → JobsInLine script k h js e
 line-quiet script t e k h [] g quiet l = λ i x y z. quiet i y z (l i x y z)
 line-quiet script t e k h (j ∷ js) g quiet l = (l .0, l .1, l .2, l .3, l .4, l .5, omega (arith, l .6), line-quiet script t e k (suc (l .0)) js g quiet (l .7))

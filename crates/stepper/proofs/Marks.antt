@@ -13,7 +13,7 @@ use Rattle.model.specs.declared.build.Release.{Release}
 use Rattle.model.specs.Limits.{mostRecords, homeOf}
 use Rattle.stepper.specs.Ranks.{rankBit}
 use Rattle.stepper.specs.Lines.{recordTask, recordJoins, NextOf}
-use Rattle.stepper.specs.Follow.{rankOf, Heads, Marks, ReleasedIn, Seated}
+use Rattle.stepper.specs.Follow.{rankOf, Heads, Marks, ReleasedIn, LegalRun}
 use Rattle.stepper.proofs.Ranks.{bit-most, bit-or}
 use Rattle.stepper.proofs.Lines.{joins-later}
 
@@ -35,11 +35,11 @@ bit-two v w r e = omega (arith, bit-or v w r, bit-most v r)
 pub heads-later : {script : List Release} {t u k h : ℕ} → t ≤ u → Heads script t k h → Heads script u k h
 heads-later up s = record { there = s .there; own = s .own; before = λ i l g e. omega (arith, s .before i l g e) }
 
-module _ {o : Order} {b : Build} {script : List Release} (seated : Seated o b script) where
+module _ {o : Order} {b : Build} {script : List Release} (legal-run : LegalRun o b script) where
   -- the next of a task heads it, once its oldest has joined
   pub heads-next : (k t h r : ℕ) → Heads script t k h → recordJoins script h < t → recordTask script h ≡ k → NextOf (λ x. x) script k (suc h) r → Heads script t k r
   heads-next k t h r s now own n =
-      record { there = n .there; own = λ l. n .own (omega (arith, seated .few-records)); before = λ i l g e. go i l g e (decLt i h) (decLt h i) }
+      record { there = n .there; own = λ l. n .own (omega (arith, legal-run .few-records)); before = λ i l g e. go i l g e (decLt i h) (decLt h i) }
     where
       go : (i : ℕ) → i < r → i < length script → recordTask script i ≡ k → Dec (i < h) → Dec (h < i) → recordJoins script i < t
       go i l g e (yes p) d = s .before i p g e
@@ -52,8 +52,8 @@ module _ {o : Order} {b : Build} {script : List Release} (seated : Seated o b sc
     where
       go : Dec (i < h) → Dec (h < i) → (h < mostRecords) × (recordJoins script h ≤ recordJoins script i)
       go (yes q) d = absurd (omega (arith, s .before i q there own))
-      go (no q) (yes r) = (omega (arith, seated .few-records), omega (arith, joins-later (seated .legal) h i r there (s .own (omega arith) ∙ sym own)))
-      go (no q) (no r) = let same : h ≡ i = omega arith in (omega (arith, seated .few-records), omega (arith, ap (recordJoins script) same))
+      go (no q) (yes r) = (omega (arith, legal-run .few-records), omega (arith, joins-later (legal-run .legal) h i r there (s .own (omega arith) ∙ sym own)))
+      go (no q) (no r) = let same : h ≡ i = omega arith in (omega (arith, legal-run .few-records), omega (arith, ap (recordJoins script) same))
 
   module _ (p : ℕ) (oldest : ℕ → ℕ) where
     -- what joins up to a later tick waits then
@@ -86,6 +86,6 @@ module _ {o : Order} {b : Build} {script : List Release} (seated : Seated o b sc
             new q =
                 let x = due .only r q in
                 let k = recordTask script (x .0) in
-                let known = seated .legal .known (x .0) (x .1) in
+                let known = legal-run .legal .known (x .0) (x .1) in
                 let first = heads-first t k (oldest k) (x .0) (heads k known (x .2)) (x .1) refl (x .3) in
                 (k, known, x .2, x .5, first .0, omega (arith, first .1, x .4))

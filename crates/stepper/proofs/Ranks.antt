@@ -7,7 +7,7 @@ use native.Mathlib.Omega.{arith}
 use lib.Bits.{bitOr, or-step}
 use lib.Count.{trailingZeros, under}
 use lib.Pow.{pow-lt}
-use Rattle.stepper.specs.Ranks.{rankBit, Lowest}
+use Rattle.stepper.specs.Ranks.{rankBit, LowestRank}
 
 -- a bit is 0 or 1
 pub bit-most : (w r : ℕ) → rankBit w r ≤ 1
@@ -64,7 +64,7 @@ bit-stays w (suc r) (suc s) e n =
     let half : (w - 2 ^ suc r) / 2 ≡ w / 2 - 2 ^ r = omega (arith, pow-suc 2 r, bit-within (w / 2) r e) in
     ap (λ (x : ℕ). rankBit x s) half ∙ bit-stays (w / 2) r s e (λ q. n (ap suc q))
 
-lowest-more : (w r : ℕ) → w % 2 ≡ 0 → Lowest (w / 2) r → Lowest w (suc r)
+lowest-more : (w r : ℕ) → w % 2 ≡ 0 → LowestRank (w / 2) r → LowestRank w (suc r)
 unfolding rankBit
 lowest-more w r e l = record { inside = l .inside; none-below = below }
   where
@@ -72,17 +72,17 @@ lowest-more w r e l = record { inside = l .inside; none-below = below }
     below zero h = e
     below (suc s) h = l .none-below s (omega arith)
 
-lowest-here : (w : ℕ) → w % 2 ≡ 1 → Lowest w 0
+lowest-here : (w : ℕ) → w % 2 ≡ 1 → LowestRank w 0
 unfolding rankBit
 lowest-here w e = record { inside = e; none-below = λ s h. absurd (omega arith) }
 
-pub trailing : (k w : ℕ) → 0 < w → w < 2 ^ k → (trailingZeros k w < k) × Lowest w (trailingZeros k w)
+pub trailing : (k w : ℕ) → 0 < w → w < 2 ^ k → (trailingZeros k w < k) × LowestRank w (trailingZeros k w)
 unfolding trailingZeros
 trailing zero w some few = absurd (omega arith)
 trailing (suc k) w some few = go (λ (h : 0 < w / 2). trailing k (w / 2) h (omega (arith, pow-suc 2 k))) (w % 2) refl
   where
-    go : (0 < w / 2 → (trailingZeros k (w / 2) < k) × Lowest (w / 2) (trailingZeros k (w / 2)))
-        → (d : ℕ) → w % 2 ≡ d → (under d (trailingZeros k (w / 2)) < suc k) × Lowest w (under d (trailingZeros k (w / 2)))
+    go : (0 < w / 2 → (trailingZeros k (w / 2) < k) × LowestRank (w / 2) (trailingZeros k (w / 2)))
+        → (d : ℕ) → w % 2 ≡ d → (under d (trailingZeros k (w / 2)) < suc k) × LowestRank w (under d (trailingZeros k (w / 2)))
     go ih zero e = let l = ih (omega arith) in (omega (arith, l .0), lowest-more w (trailingZeros k (w / 2)) e (l .1))
     go ih (suc d) e = (omega arith, lowest-here w (omega arith))
 

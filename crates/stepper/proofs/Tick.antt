@@ -26,9 +26,9 @@ use Rattle.machine.proofs.Work.{theirs-of}
 use Rattle.machine.proofs.Once.{runs-own}
 use Rattle.machine.proofs.Isolation.{home-member, member-home}
 use Rattle.stepper.specs.declared.Machine.{Machine}
-use Rattle.stepper.specs.Ranks.{rankBit, Lowest}
-use Rattle.stepper.specs.Lines.{recordTask, recordJoins, NextOf, InLine}
-use Rattle.stepper.specs.Follow.{rankOf, oldestOf, Heads, ShowsRunning, Marks, Follows, StartsOne, ReleasedIn, Seated}
+use Rattle.stepper.specs.Ranks.{rankBit, LowestRank}
+use Rattle.stepper.specs.Lines.{recordTask, recordJoins, NextOf, JobsInLine}
+use Rattle.stepper.specs.Follow.{rankOf, oldestOf, Heads, ShowsRunning, Marks, Follows, StartsOne, ReleasedIn, LegalRun}
 use Rattle.stepper.proofs.Ranks.{bit-most, bit-none, bit-left, bit-stays}
 use Rattle.stepper.proofs.Lines.{line-joined, line-passed, line-first}
 use Rattle.stepper.proofs.Above.{outranks-lower, ranks-apart}
@@ -39,7 +39,7 @@ has-not-ended : (r : Running) (k a l : ℕ) → r ≡ runs k a (suc l) → ended
 unfolding ended
 has-not-ended r k a l e over = let z : _≡_ {A = ℕ} 0 1 = cc (sym (ap ended e) ∙ over) in omega arith
 
-module _ {o : Order} {b : Build} {script : List Release} (seated : Seated o b script) (p : ℕ) (m : Machine) (follows : Follows o b script p m)
+module _ {o : Order} {b : Build} {script : List Release} (legal-run : LegalRun o b script) (p : ℕ) (m : Machine) (follows : Follows o b script p m)
     (releases : ℕ) (due : ReleasedIn b script p (m .tick) (suc (m .tick)) releases) where
   abbrev tick : ℕ
   tick = m .tick
@@ -58,26 +58,26 @@ module _ {o : Order} {b : Build} {script : List Release} (seated : Seated o b sc
   heads-now k known home = heads-later (omega arith) (follows .heads k known home)
 
   marks-now : Marks o b script p (oldestOf b m) (suc tick) mask
-  marks-now = marks-on seated p (oldestOf b m) tick (suc tick) (m .waiting) releases (omega arith) (follows .heads) (follows .marks) due
+  marks-now = marks-on legal-run p (oldestOf b m) tick (suc tick) (m .waiting) releases (omega arith) (follows .heads) (follows .marks) due
 
-  line-now : (k : ℕ) → k < o .tasks → homeOf b k ≡ p → InLine script k (oldestOf b m k) (joined k) (suc tick)
+  line-now : (k : ℕ) → k < o .tasks → homeOf b k ≡ p → JobsInLine script k (oldestOf b m k) (joined k) (suc tick)
   unfolding joining
   line-now k known home =
       let same = theirs-of o (membersOf b p) (patternOf script) tick k (home-member b p k home) in
-      subst (λ (x : ℕ). InLine script k (oldestOf b m k) (waitingBefore o (membersOf b p) (patternOf script) tick k ++ released tick x) (suc tick)) (sym same)
-      (line-joined (seated .legal) k (oldestOf b m k) (waitingBefore o (membersOf b p) (patternOf script) tick k) tick (follows .heads k known home .before) (follows .line k known home))
+      subst (λ (x : ℕ). JobsInLine script k (oldestOf b m k) (waitingBefore o (membersOf b p) (patternOf script) tick k ++ released tick x) (suc tick)) (sym same)
+      (line-joined (legal-run .legal) k (oldestOf b m k) (waitingBefore o (membersOf b p) (patternOf script) tick k) tick (follows .heads k known home .before) (follows .line k known home))
 
   -- where a job waits, the bit is set
   waits-bit : (k : ℕ) (j : Job) (js : List Job) → k < o .tasks → homeOf b k ≡ p → joined k ≡ j ∷ js → rankBit mask (rankOf b k) ≡ 1
   waits-bit k j js known home e =
-      let l = line-first (seated .legal) k (oldestOf b m k) j js (suc tick) (heads-now k known home .own) (subst (λ (x : List Job). InLine script k (oldestOf b m k) x (suc tick)) e (line-now k known home)) in
-      marks-now .waits k known home (omega (arith, l .0, seated .few-records)) (l .2)
+      let l = line-first (legal-run .legal) k (oldestOf b m k) j js (suc tick) (heads-now k known home .own) (subst (λ (x : List Job). JobsInLine script k (oldestOf b m k) x (suc tick)) e (line-now k known home)) in
+      marks-now .waits k known home (omega (arith, l .0, legal-run .few-records)) (l .2)
 
   -- and where the oldest has joined, a job waits
   bit-waits : (k : ℕ) → k < o .tasks → homeOf b k ≡ p → oldestOf b m k < mostRecords → recordJoins script (oldestOf b m k) < suc tick → joined k ≡ [] → ⊥
   bit-waits k known home some soon e =
       let there = heads-now k known home .there some in
-      let late = subst (λ (x : List Job). InLine script k (oldestOf b m k) x (suc tick)) e (line-now k known home) (oldestOf b m k) (omega arith) there (heads-now k known home .own there) in
+      let late = subst (λ (x : List Job). JobsInLine script k (oldestOf b m k) x (suc tick)) e (line-now k known home) (oldestOf b m k) (omega arith) there (heads-now k known home .own there) in
       omega (arith, late)
 
   -- what begins is a member's
@@ -106,7 +106,7 @@ module _ {o : Order} {b : Build} {script : List Release} (seated : Seated o b sc
           record {
             sized = follows .sized;
             heads = heads-now;
-            line = λ x known home. subst (λ (js : List Job). InLine script x (oldestOf b m x) js (suc tick)) (sym (same x)) (line-now x known home);
+            line = λ x known home. subst (λ (js : List Job). JobsInLine script x (oldestOf b m x) js (suc tick)) (sym (same x)) (line-now x known home);
             marks = marks-now;
             runs-so = subst (ShowsRunning script (record { tick = suc tick; waiting = mask; oldest = m .oldest; ahead = m .ahead; job = m .job; left = m .left - 1 })) (sym e′) (omega (arith, was .0), was .1, was .2, was .3);
           }
@@ -125,7 +125,7 @@ module _ {o : Order} {b : Build} {script : List Release} (seated : Seated o b sc
           record {
             sized = follows .sized;
             heads = heads-now;
-            line = λ x known home. subst (λ (js : List Job). InLine script x (oldestOf b m x) js (suc tick)) (sym (same x)) (line-now x known home);
+            line = λ x known home. subst (λ (js : List Job). JobsInLine script x (oldestOf b m x) js (suc tick)) (sym (same x)) (line-now x known home);
             marks = marks-now;
             runs-so = subst (ShowsRunning script (record { tick = suc tick; waiting = mask; oldest = m .oldest; ahead = m .ahead; job = mostRecords; left = m .left })) (sym e′) (refl, nothing);
           }
@@ -135,7 +135,7 @@ module _ {o : Order} {b : Build} {script : List Release} (seated : Seated o b sc
   Joined k = (k < o .tasks) × (homeOf b k ≡ p) × (oldestOf b m k < mostRecords) × (recordJoins script (oldestOf b m k) < suc tick)
 
   -- the one with the lowest rank begins
-  lowest-begins : (k : ℕ) → Joined k → Lowest mask (rankOf b k) → (k′ : ℕ) (j : Job) (js : List Job) → k′ < o .tasks → homeOf b k′ ≡ p → joined k′ ≡ j ∷ js
+  lowest-begins : (k : ℕ) → Joined k → LowestRank mask (rankOf b k) → (k′ : ℕ) (j : Job) (js : List Job) → k′ < o .tasks → homeOf b k′ ≡ p → joined k′ ≡ j ∷ js
       → ((x : ℕ) → x < o .tasks → outranks o x k′ ≡ true → joined x ≡ []) → k′ ≡ k
   lowest-begins k mine low k′ j js known home e up = go (ℕ-discrete k′ k)
     where
@@ -143,7 +143,7 @@ module _ {o : Order} {b : Build} {script : List Release} (seated : Seated o b sc
       go (yes same) = same
       go (no other) =
           ⊎-elim
-          (λ above. absurd (omega (arith, waits-bit k′ j js known home e, low .none-below (rankOf b k′) (outranks-lower seated p k′ k known (mine .0) home (mine .1) above))))
+          (λ above. absurd (omega (arith, waits-bit k′ j js known home e, low .none-below (rankOf b k′) (outranks-lower legal-run p k′ k known (mine .0) home (mine .1) above))))
           (λ below. absurd (bit-waits k (mine .0) (mine .1) (mine .2) (mine .3) (up k (mine .0) below)))
           (outranks-one o k′ k other)
 
@@ -155,7 +155,7 @@ module _ {o : Order} {b : Build} {script : List Release} (seated : Seated o b sc
   abbrev hasJoined : ℕ → Bool
   hasJoined i = ltb i mostRecords && ltb (recordJoins script i) (suc tick)
 
-  module _ (k : ℕ) (mine : Joined k) (low : Lowest mask (rankOf b k)) (younger : ℕ) (next : NextOf (λ x. x) script k (suc (oldestOf b m k)) younger) where
+  module _ (k : ℕ) (mine : Joined k) (low : LowestRank mask (rankOf b k)) (younger : ℕ) (next : NextOf (λ x. x) script k (suc (oldestOf b m k)) younger) where
     abbrev r : ℕ
     r = rankOf b k
 
@@ -166,7 +166,7 @@ module _ {o : Order} {b : Build} {script : List Release} (seated : Seated o b sc
     after x = getD (set (m .oldest) r younger) (rankOf b x) 0
 
     r-few : r < mostTasks
-    r-few = omega (arith, seated .ranked k (mine .0), rank-less o (membersOf b (homeOf b k)) k (mine .0), seated .few)
+    r-few = omega (arith, legal-run .ranked k (mine .0), rank-less o (membersOf b (homeOf b k)) k (mine .0), legal-run .few)
 
     own : recordTask script h ≡ k
     own = heads-now k (mine .0) (mine .1) .own (heads-now k (mine .0) (mine .1) .there (mine .2))
@@ -175,12 +175,12 @@ module _ {o : Order} {b : Build} {script : List Release} (seated : Seated o b sc
     after-own = getD-set-same (m .oldest) r younger 0 (rw (follows .sized) r-few)
 
     after-other : (x : ℕ) → x < o .tasks → homeOf b x ≡ p → x ≢ k → after x ≡ oldestOf b m x
-    after-other x known home other = getD-set-other (m .oldest) r (rankOf b x) younger 0 (ranks-apart seated p x k known (mine .0) home (mine .1) other)
+    after-other x known home other = getD-set-other (m .oldest) r (rankOf b x) younger 0 (ranks-apart legal-run p x k known (mine .0) home (mine .1) other)
 
     heads-then : (x : ℕ) → x < o .tasks → homeOf b x ≡ p → Dec (x ≡ k) → Heads script (suc tick) x (after x)
     heads-then x known home (yes e) =
         subst (λ (y : ℕ). Heads script (suc tick) y (after y)) (sym e)
-        (subst (Heads script (suc tick) k) (sym after-own) (heads-next seated k (suc tick) h younger (heads-now k (mine .0) (mine .1)) (mine .3) own next))
+        (subst (Heads script (suc tick) k) (sym after-own) (heads-next legal-run k (suc tick) h younger (heads-now k (mine .0) (mine .1)) (mine .3) own next))
     heads-then x known home (no n) = subst (Heads script (suc tick) x) (sym (after-other x known home n)) (heads-now x known home)
 
     -- the bit of its rank stays where the younger one has joined
@@ -210,7 +210,7 @@ module _ {o : Order} {b : Build} {script : List Release} (seated : Seated o b sc
             clash (e ∙ both-and _ _ (lt-ltb younger mostRecords (omega arith)) (lt-ltb (recordJoins script younger) (suc tick) (omega (arith, ap (recordJoins script) same))))
         waits x known home some soon (no q) true e = others x known home q some soon
         waits x known home some soon (no q) false e =
-            bit-stays mask r (rankOf b x) (low .inside) (ranks-apart seated p x k known (mine .0) home (mine .1) q) ∙ others x known home q some soon
+            bit-stays mask r (rankOf b x) (low .inside) (ranks-apart legal-run p x k known (mine .0) home (mine .1) q) ∙ others x known home q some soon
 
         only-they : (s : ℕ) → Dec (s ≡ r) → (stays : Bool) → stays ≡ hasJoined younger → rankBit (pick stays mask (mask - 2 ^ r)) s ≡ 1
             → (x : ℕ) × (x < o .tasks) × (homeOf b x ≡ p) × (rankOf b x ≡ s) × (after x < mostRecords) × (recordJoins script (after x) < suc tick)
@@ -222,14 +222,14 @@ module _ {o : Order} {b : Build} {script : List Release} (seated : Seated o b sc
     -- what waits of each task then
     line-then : (x : ℕ) → x < o .tasks → homeOf b x ≡ p → (j : Job) (js : List Job) → joined k ≡ j ∷ js → waitingBefore o (membersOf b p) (patternOf script) (suc tick) k ≡ js
         → ((y : ℕ) → y ≢ k → waitingBefore o (membersOf b p) (patternOf script) (suc tick) y ≡ joined y) → Dec (x ≡ k)
-        → InLine script x (after x) (waitingBefore o (membersOf b p) (patternOf script) (suc tick) x) (suc tick)
+        → JobsInLine script x (after x) (waitingBefore o (membersOf b p) (patternOf script) (suc tick) x) (suc tick)
     line-then x known home j js e w′ same (yes q) =
-        let l = line-first (seated .legal) k h j js (suc tick) (heads-now k (mine .0) (mine .1) .own) (subst (λ (y : List Job). InLine script k h y (suc tick)) e (line-now k (mine .0) (mine .1))) in
-        let passed = line-passed (seated .legal) k (suc h) younger js (suc tick) (next .from) (next .between) (l .3) in
-        subst (λ (y : ℕ). InLine script y (after y) (waitingBefore o (membersOf b p) (patternOf script) (suc tick) y) (suc tick)) (sym q)
-        (subst₂ (λ (y : ℕ) (w : List Job). InLine script k y w (suc tick)) (sym after-own) (sym w′) passed)
+        let l = line-first (legal-run .legal) k h j js (suc tick) (heads-now k (mine .0) (mine .1) .own) (subst (λ (y : List Job). JobsInLine script k h y (suc tick)) e (line-now k (mine .0) (mine .1))) in
+        let passed = line-passed (legal-run .legal) k (suc h) younger js (suc tick) (next .from) (next .between) (l .3) in
+        subst (λ (y : ℕ). JobsInLine script y (after y) (waitingBefore o (membersOf b p) (patternOf script) (suc tick) y) (suc tick)) (sym q)
+        (subst₂ (λ (y : ℕ) (w : List Job). JobsInLine script k y w (suc tick)) (sym after-own) (sym w′) passed)
     line-then x known home j js e w′ same (no q) =
-        subst₂ (λ (y : ℕ) (w : List Job). InLine script x y w (suc tick)) (sym (after-other x known home q)) (sym (same x q)) (line-now x known home)
+        subst₂ (λ (y : ℕ) (w : List Job). JobsInLine script x y w (suc tick)) (sym (after-other x known home q)) (sym (same x q)) (line-now x known home)
 
     starts-k : m .left ≡ 0 → (left : ℕ) → left ≡ recordOf script h .duration - 1 → (stays : Bool) → stays ≡ hasJoined younger → Follows o b script p (started r younger left stays)
     starts-k nothing left e stays f = go (view o (membersOf b p) (patternOf script) tick)
@@ -240,7 +240,7 @@ module _ {o : Order} {b : Build} {script : List Release} (seated : Seated o b sc
         go (begins k′ j js over below g g′ w′ same up) =
             let q = lowest-begins k mine low k′ j js below (begins-own k′ _ _ g′) g up in
             let front : joined k ≡ j ∷ js = subst (λ (y : ℕ). joined y ≡ j ∷ js) q g in
-            let l = line-first (seated .legal) k h j js (suc tick) (heads-now k (mine .0) (mine .1) .own) (subst (λ (y : List Job). InLine script k h y (suc tick)) front (line-now k (mine .0) (mine .1))) in
+            let l = line-first (legal-run .legal) k h j js (suc tick) (heads-now k (mine .0) (mine .1) .own) (subst (λ (y : List Job). JobsInLine script k h y (suc tick)) front (line-now k (mine .0) (mine .1))) in
             record {
               sized = length-set (m .oldest) r younger ∙ follows .sized;
               heads = λ x known home. heads-then x known home (ℕ-discrete x k);
@@ -260,17 +260,17 @@ module _ {o : Order} {b : Build} {script : List Release} (seated : Seated o b sc
         go (yes q) (no l) (no g) = inr (omega arith)
 
   -- of which the lowest rank is
-  pub whose : (r : ℕ) → Lowest mask r → (k : ℕ) × (rankOf b k ≡ r) × Joined k
+  pub whose : (r : ℕ) → LowestRank mask r → (k : ℕ) × (rankOf b k ≡ r) × Joined k
   whose r low = let x = marks-now .only-they r (low .inside) in (x .0, x .3, (x .1, x .2, x .4, x .5))
 
   -- its oldest record is one of the script
-  pub oldest-there : (r : ℕ) → Lowest mask r → getD (m .oldest) r 0 < length script
+  pub oldest-there : (r : ℕ) → LowestRank mask r → getD (m .oldest) r 0 < length script
   oldest-there r low =
       let x = whose r low in
       subst (λ (y : ℕ). getD (m .oldest) y 0 < length script) (x .1) (heads-now (x .0) (x .2 .0) (x .2 .1) .there (x .2 .2))
 
   -- the oldest job of the highest-priority waiting member starts
-  pub starts-so : (r : ℕ) → Lowest mask r → m .left ≡ 0 → (younger left : ℕ) (stays : Bool)
+  pub starts-so : (r : ℕ) → LowestRank mask r → m .left ≡ 0 → (younger left : ℕ) (stays : Bool)
       → NextOf (λ x. x) script (recordTask script (getD (m .oldest) r 0)) (suc (getD (m .oldest) r 0)) younger
       → left ≡ recordOf script (getD (m .oldest) r 0) .duration - 1 → stays ≡ hasJoined younger
       → Follows o b script p (started r younger left stays) × StartsOne o b script p m (started r younger left stays)
@@ -282,10 +282,10 @@ module _ {o : Order} {b : Build} {script : List Release} (seated : Seated o b sc
       own-is : recordTask script (oldestOf b m (x .0)) ≡ x .0
       own-is = heads-now (x .0) (x .2 .0) (x .2 .1) .own (heads-now (x .0) (x .2 .0) (x .2 .1) .there (x .2 .2))
 
-      go : (s : ℕ) → rankOf b (x .0) ≡ s → Lowest mask s → NextOf (λ x. x) script (recordTask script (getD (m .oldest) s 0)) (suc (getD (m .oldest) s 0)) younger
+      go : (s : ℕ) → rankOf b (x .0) ≡ s → LowestRank mask s → NextOf (λ x. x) script (recordTask script (getD (m .oldest) s 0)) (suc (getD (m .oldest) s 0)) younger
           → left ≡ recordOf script (getD (m .oldest) s 0) .duration - 1
           → Follows o b script p (started s younger left stays) × StartsOne o b script p m (started s younger left stays)
-      go s q = subst (λ (s : ℕ). Lowest mask s → NextOf (λ x. x) script (recordTask script (getD (m .oldest) s 0)) (suc (getD (m .oldest) s 0)) younger
+      go s q = subst (λ (s : ℕ). LowestRank mask s → NextOf (λ x. x) script (recordTask script (getD (m .oldest) s 0)) (suc (getD (m .oldest) s 0)) younger
           → left ≡ recordOf script (getD (m .oldest) s 0) .duration - 1 → Follows o b script p (started s younger left stays) × StartsOne o b script p m (started s younger left stays)) q
           (λ low next e.
           (let its = subst (λ (y : ℕ). NextOf (λ x. x) script y (suc (oldestOf b m (x .0))) younger) own-is next in

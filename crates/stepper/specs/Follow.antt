@@ -15,7 +15,7 @@ use Rattle.machine.specs.Box.{boxBefore}
 use Rattle.script.specs.Held.{Held}
 use Rattle.stepper.specs.declared.Machine.{Machine}
 use Rattle.stepper.specs.Ranks.{rankBit}
-use Rattle.stepper.specs.Lines.{recordTask, recordJoins, NextOf, InLine}
+use Rattle.stepper.specs.Lines.{recordTask, recordJoins, NextOf, JobsInLine}
 
 -- the rank that a build records for task k
 abbrev pub rankOf : Build → ℕ → ℕ
@@ -48,7 +48,7 @@ pub record Follows (o : Order) (b : Build) (script : List Release) (p : ℕ) (m 
   pub sized : length (m .oldest) ≡ mostTasks
   pub heads : (k : ℕ) → k < o .tasks → homeOf b k ≡ p → Heads script (m .tick) k (oldestOf b m k)
   pub line : (k : ℕ) → k < o .tasks → homeOf b k ≡ p
-      → InLine script k (oldestOf b m k) (boxBefore o b (patternOf script) (m .tick) p .waiting k) (m .tick)
+      → JobsInLine script k (oldestOf b m k) (boxBefore o b (patternOf script) (m .tick) p .waiting k) (m .tick)
   pub marks : Marks o b script p (oldestOf b m) (m .tick) (m .waiting)
   pub runs-so : ShowsRunning script m (boxBefore o b (patternOf script) (m .tick) p .running)
 
@@ -65,14 +65,14 @@ pub record ReleasedIn (b : Build) (script : List Release) (p from until ranks : 
       → (i : ℕ) × (i < length script) × (homeOf b (recordTask script i) ≡ p) × (from ≤ recordJoins script i) × (recordJoins script i < until) × (rankOf b (recordTask script i) ≡ r)
 
 -- an order's tasks with their ranks in a build, and a legal script for them
-pub record Seated (o : Order) (b : Build) (script : List Release) : Type 0 where
+pub record LegalRun (o : Order) (b : Build) (script : List Release) : Type 0 where
   pub few : o .tasks ≤ mostTasks
   pub ranked : (k : ℕ) → k < o .tasks → rankOf b k ≡ rank o (membersOf b (homeOf b k)) k
   pub legal : LegalScript o script
   pub few-records : length script ≤ mostRecords
 
 -- the arrays stand for a script, each record with the next of its task
-pub record Laid (script : List Release) (keys durations next : List ℕ) : Type 0 where
+pub record Chained (script : List Release) (keys durations next : List ℕ) : Type 0 where
   pub held : Held script keys durations
   pub places : length next ≡ mostRecords
   pub next-at : (i : ℕ) → i < length script → NextOf (λ k. k) script (recordTask script i) (suc i) (getD next i 0)
@@ -83,8 +83,8 @@ pub record Ready (m : Machine) (releases : ℕ) (keys durations next : List ℕ)
   pub build : Build
   pub script : List Release
   pub partition : ℕ
-  pub seated : Seated order build script
-  pub laid : Laid script keys durations next
+  pub legal-run : LegalRun order build script
+  pub laid : Chained script keys durations next
   pub follows : Follows order build script partition m
   pub due : ReleasedIn build script partition (m .tick) (suc (m .tick)) releases
   pub soon : m .tick < 4_294_967_295

@@ -25,8 +25,8 @@ pub record NextOf (group : ℕ → ℕ) (script : List Release) (g i r : ℕ) : 
   pub between : (x : ℕ) → i ≤ x → x < r → x < length script → group (recordTask script x) ≡ g → ⊥
 
 -- the jobs are those of the records of a task from i on that joined before a tick, the oldest first
-abbrev pub InLine : List Release → (task i : ℕ) → List Job → (tick : ℕ) → Type 0
-InLine script task i [] tick = (x : ℕ) → i ≤ x → x < length script → recordTask script x ≡ task → tick ≤ recordJoins script x
-InLine script task i (j ∷ younger) tick =
+abbrev pub JobsInLine : List Release → (task i : ℕ) → List Job → (tick : ℕ) → Type 0
+JobsInLine script task i [] tick = (x : ℕ) → i ≤ x → x < length script → recordTask script x ≡ task → tick ≤ recordJoins script x
+JobsInLine script task i (j ∷ younger) tick =
     (r : ℕ) × (i ≤ r) × (r < length script) × (recordTask script r ≡ task) × ((x : ℕ) → i ≤ x → x < r → recordTask script x ≡ task → ⊥)
-    × (j ≡ job (recordJoins script r) (recordOf script r .duration)) × (recordJoins script r < tick) × InLine script task (suc r) younger tick
+    × (j ≡ job (recordJoins script r) (recordOf script r .duration)) × (recordJoins script r < tick) × JobsInLine script task (suc r) younger tick

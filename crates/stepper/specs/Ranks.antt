@@ -8,6 +8,6 @@ rankBit ranks zero = ranks % 2
 rankBit ranks (suc rank) = rankBit (ranks / 2) rank
 
 -- the lowest rank of a set
-pub record Lowest (ranks rank : ℕ) : Type 0 where
+pub record LowestRank (ranks rank : ℕ) : Type 0 where
   pub inside : rankBit ranks rank ≡ 1
   pub none-below : (r : ℕ) → r < rank → rankBit ranks r ≡ 0

@@ -8,7 +8,7 @@ ghost use lib.Bits.{bitOr};
 ghost use lib.Dec.{ltb};
 ghost use lib.ListN.{length, getD};
 ghost use Rattle.laws.specs.Choice.{pick};
-ghost use Rattle.stepper.specs.Ranks.{Lowest};
+ghost use Rattle.stepper.specs.Ranks.{LowestRank};
 ghost use Rattle.stepper.specs.Follow.{Ready, Follows, StartsOne};
 
 // What a partition holds before a tick: the ranks of the members that wait, a bit each; by rank, the member's oldest
@@ -46,7 +46,7 @@ pub fn with_rank(ranks: u32, rank: u32) -> u32
 // The lowest rank of a set.
 fn lowest(ranks: u32) -> u32
     requires { ⌜ 0 < ranks ⌝ }
-    ensures { λ r. ⌜ (r < 32) × Lowest ranks r ⌝ }
+    ensures { λ r. ⌜ (r < 32) × LowestRank ranks r ⌝ }
 {
     u32::trailing_zeros(ranks)
 }

@@ -23,7 +23,7 @@ abbrev μ-loop : tie.MeasureT-loop
 
 -- src/lib.rt:203:5
 loop-holds : tie.Need-loop-holds Inv-loop μ-loop
-loop-holds c = λ so. (so .turns .so-far, noted-none (so .turns .lined .seated) (so .turns .short) (so .turns .partition) (c .before .args .start) (c .before .args .out .now) (so .none-started))
+loop-holds c = λ so. (so .turns .so-far, noted-none (so .turns .lined .legal-run) (so .turns .short) (so .turns .partition) (c .before .args .start) (c .before .args .out .now) (so .none-started))
 
 -- src/lib.rt:203:11
 goes-on-requires : tie.Need-goes-on-requires Inv-loop μ-loop
@@ -39,8 +39,8 @@ note-requires c κs =
     let so = c .before .before .before .before .before .before .pre in
     let t = c .before .turn .ensures (turns-now so (c .before .before .before .before .loop .m) (c .before .before .before .before .loop .inv so .0)) in
     let r = c .before .turn .result in (
-      ends-soon (so .turns .lined .seated) (so .turns .short) (so .turns .partition) r (t .so-far .follows) (t .so-far .soon),
-      λ q. omega (arith, job-runs (so .turns .lined .seated) (so .turns .short) (so .turns .partition) r (t .so-far .follows) q .there, so .room, c .before .before .before .before .loop .inv so .1 .places),
+      ends-soon (so .turns .lined .legal-run) (so .turns .short) (so .turns .partition) r (t .so-far .follows) (t .so-far .soon),
+      λ q. omega (arith, job-runs (so .turns .lined .legal-run) (so .turns .short) (so .turns .partition) r (t .so-far .follows) q .there, so .room, c .before .before .before .before .loop .inv so .1 .places),
     )
 
 -- src/lib.rt:203:5
@@ -57,7 +57,7 @@ loop-again c = λ so.
     let t = c .before .before .before .before .turn .ensures (turns-now so (c .before .before .before .before .before .before .before .loop .m) (was .0)) in (
       t .so-far,
       subst (NotedSo (so .turns .order) (so .turns .build) (so .turns .script) (so .turns .partition) (c .before .before .before .before .turn .result) (c .before .before .before .before .before .before .before .before .before .args .out .now)) (sym (c .before .before .note .ensures))
-          (noted-more (so .turns .lined .seated) (so .turns .short) (so .turns .partition) (c .before .before .before .before .before .before .before .loop .m) (c .before .before .before .before .turn .result) (c .before .before .before .before .before .before .before .before .before .args .out .now) (c .before .before .before .before .before .before .before .loop .out) (so .room) (was .1) t),
+          (noted-more (so .turns .lined .legal-run) (so .turns .short) (so .turns .partition) (c .before .before .before .before .before .before .before .loop .m) (c .before .before .before .before .turn .result) (c .before .before .before .before .before .before .before .before .before .args .out .now) (c .before .before .before .before .before .before .before .loop .out) (so .room) (was .1) t),
     )
 
 -- src/lib.rt:190:1
@@ -68,7 +68,7 @@ same-length c = c .before .before .loop .inv (c .before .before .before .before 
 returns : tie.Need-returns Inv-loop μ-loop
 returns c = λ so.
     let was = c .before .before .loop .inv so in
-    noted-all (so .turns .lined .seated) (so .turns .short) (so .turns .partition) (c .before .before .loop .m) (c .before .before .before .before .args .out .now) (c .before .before .loop .out) (was .0) (sym (c .before .goes-on .ensures) ∙ c .if1 .left) (was .1)
+    noted-all (so .turns .lined .legal-run) (so .turns .short) (so .turns .partition) (c .before .before .loop .m) (c .before .before .before .before .args .out .now) (c .before .before .loop .out) (was .0) (sym (c .before .goes-on .ensures) ∙ c .if1 .left) (was .1)
 
 pub run-partition-spec : {M : Type 1} → statement M
 run-partition-spec =

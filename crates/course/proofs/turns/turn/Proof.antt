@@ -11,7 +11,7 @@ use Rattle.stepper.proofs.Machine.tick.Reads as tick-reads
 
 -- src/lib.rt:179:9
 event-requires : tie.Need-event-requires
-event-requires c κs = (ends-soon (c .pre .0 .lined .seated) (c .pre .0 .short) (c .pre .0 .partition) (c .args .m) (c .pre .0 .so-far .follows) (c .pre .0 .so-far .soon), c .pre .1, c .pre .0 .lined .laid .held .sizes .0)
+event-requires c κs = (ends-soon (c .pre .0 .lined .legal-run) (c .pre .0 .short) (c .pre .0 .partition) (c .args .m) (c .pre .0 .so-far .follows) (c .pre .0 .so-far .soon), c .pre .1, c .pre .0 .lined .laid .held .sizes .0)
 
 -- src/lib.rt:180:9
 gather-requires : tie.Need-gather-requires
