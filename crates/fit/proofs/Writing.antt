@@ -130,7 +130,7 @@ module _ (keys worsts : List ℕ) (tasks : ℕ) where
       rank-there =
           let lined = lined-part o (so .limits) (λ j. not (isUnplaced homes j)) (homeAt homes) keys tasks line first h part own copied in
           let ranked = ranked-in o (so .limits) there (homeAt homes) own (partSize keys tasks first h) h lined
-          (lives-here o (so .limits) (λ j. not (isUnplaced homes j)) (homeAt homes) keys tasks line first h part own copied) in
+                (lives-here o (so .limits) (λ j. not (isUnplaced homes j)) (homeAt homes) keys tasks line first h part own copied) in
           let back : first + (place - first) ≡ place = omega arith in
           let same : numberAt own (place - first) ≡ i = ap numberIn (copied (place - first) long ∙ ap (keyAt keys) back) in
           ap (λ (x : ℕ). rank o (livingIn homes x) i) home-is

@@ -259,9 +259,9 @@ module _ (o : Order) (limits : WithinLimits o) (homes : List ℕ) (places : leng
       unfolding accepts
       answer-true e =
           say-members o homes′ k (λ j l m.
-          (let place = place-of o (livingIn homes′ k) (numberAt own′) count ranked j l m in
-          let r = place .0 in
-          ap (λ (x : ℕ). doesPass (verdict o (livingIn homes′ k) x)) (sym (place .2)) ∙ ap doesPass (sym (verdict-there r (place .1))) ∙ every-at (passesAt rows count) count e r (place .1)))
+              (let place = place-of o (livingIn homes′ k) (numberAt own′) count ranked j l m in
+              let r = place .0 in
+              ap (λ (x : ℕ). doesPass (verdict o (livingIn homes′ k) x)) (sym (place .2)) ∙ ap doesPass (sym (verdict-there r (place .1))) ∙ every-at (passesAt rows count) count e r (place .1)))
 
       true-answer : accepts o homes task k ≡ true → every (passesAt rows count) count ≡ true
       unfolding accepts
