@@ -21,7 +21,7 @@ pub fn most_terms(order: &Order, build: &Build) -> u64 {
     terms
 }
 
-/// Every member's test, partition by partition in rank order.
+/// The members' tests, partition by partition in rank order; none of a task after one that is known not to pass.
 struct Tests {
     lines: Vec<Line>,
     known: Known,
@@ -34,9 +34,12 @@ impl Tests {
             lines[seat.partition as usize].put_in(order, i);
         }
         let mut known = Known::default();
+        let mut failing = build.seats.len();
         for line in &lines {
-            for rank in 0..line.rows.len() {
-                line.passes(rank, &mut known, terms);
+            for (rank, &number) in line.numbers.iter().enumerate() {
+                if number < failing && !line.passes(rank, &mut known, terms) {
+                    failing = number;
+                }
             }
         }
         Tests { lines, known }
