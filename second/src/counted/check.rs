@@ -21,7 +21,8 @@ pub fn most_terms(order: &Order, build: &Build) -> u64 {
     terms
 }
 
-/// The members' tests, partition by partition in rank order; none of a task after one that is known not to pass.
+/// The members' tests, partition by partition in rank order; none of a task after one that is known not to pass: no
+/// window of such a one closes before that of the one above it.
 struct Tests {
     lines: Vec<Line>,
     known: Known,
@@ -36,10 +37,14 @@ impl Tests {
         let mut known = Known::default();
         let mut failing = build.seats.len();
         for line in &lines {
+            let mut last = 0;
             for (rank, &number) in line.numbers.iter().enumerate() {
-                if number < failing && !line.passes(rank, &mut known, terms) {
+                if number > failing {
+                    known.lasts[number] = last;
+                } else if !line.passes(rank, &mut known, terms) {
                     failing = number;
                 }
+                last = known.lasts[number];
             }
         }
         Tests { lines, known }
