@@ -2,6 +2,7 @@
 use model::Member;
 use model::Order;
 use model::Release;
+use stepper::NO_RECORD;
 ghost use mathlib.Core.Path.{_≡_};
 ghost use Prim.Native.Nat.{ℕ, _≤_, _<_};
 ghost use lib.ListN.{length, getD, set};
@@ -10,7 +11,7 @@ ghost use Rattle.laws.specs.Joined.{filled};
 ghost use Rattle.model.specs.Limits.{zeroMember, mostTasks, mostRecords};
 ghost use Rattle.course.specs.Ahead.{Grouped, LinedUp, Seats, seatsOf};
 
-// Each group's first record, and into next each record's next of its group; Release::MOST where there is none.
+// Each group's first record, and into next each record's next of its group; NO_RECORD where there is none.
 pub fn line_up(
     keys: &[u32; Release::MOST],
     records: usize,
@@ -20,7 +21,7 @@ pub fn line_up(
     requires { ⌜ Grouped records (now keys) (now groups) × (length (now next) ≡ mostRecords) ⌝ }
     ensures { λ r. ⌜ ((so : Grouped records (now (keys .entry)) (now (groups .entry))) → LinedUp (so .group) (so .script) r (now (next .exit))) ⌝ }
 {
-    let mut first = [1024u16; Order::MOST_TASKS];
+    let mut first = [NO_RECORD; Order::MOST_TASKS];
     let mut i = records;
     while 0 < i {
         i -= 1;

@@ -11,6 +11,7 @@ use model::Build;
 use model::Order;
 use model::Release;
 use stepper::Machine;
+use stepper::NO_RECORD;
 use turns::run_partition;
 ghost use mathlib.Core.Path.{_≡_};
 ghost use mathlib.Core.List.{_++_};
@@ -29,7 +30,7 @@ fn begin(oldest: [u16; Order::MOST_TASKS], ahead: u16) -> Machine
         waiting: 0,
         oldest,
         ahead,
-        job: 1024,
+        job: NO_RECORD,
         left: 0,
     }
 }

@@ -2,6 +2,7 @@
 use model::Order;
 use model::Release;
 use stepper::Machine;
+use stepper::NO_RECORD;
 ghost use mathlib.Core.Path.{_≡_};
 ghost use mathlib.Core.Bool.{true};
 ghost use Prim.Native.Nat.{_+_, _<_};
@@ -41,7 +42,11 @@ fn gather(
 fn goes_on(m: Machine) -> bool
     ensures { λ r. ⌜ r ≡ goesOn m ⌝ }
 {
-    if m.job < 1024 { true } else { m.ahead < 1024 }
+    if m.job < NO_RECORD {
+        true
+    } else {
+        m.ahead < NO_RECORD
+    }
 }
 
 // The next tick at which a job ends or, in a free partition, one joins.
@@ -49,7 +54,7 @@ fn event(m: Machine, keys: &[u32; Release::MOST]) -> u32
     requires { ⌜ (m .tick + m .left < 4_294_967_296) × (goesOn m ≡ true) × (length (now keys) ≡ mostRecords) ⌝ }
     ensures { λ r. ⌜ r ≡ eventOf m (now (keys .entry)) ⌝ }
 {
-    if m.job < 1024 {
+    if m.job < NO_RECORD {
         m.tick + m.left
     } else {
         keys[m.ahead as usize] / 32
@@ -61,7 +66,7 @@ fn note(m: Machine, out: &mut [u32])
     requires { ⌜ (m .tick + m .left < 4_294_967_296) × (m .job < mostRecords → m .job < length (now out)) ⌝ }
     ensures { λ x. ⌜ now (out .exit) ≡ noted m (now (out .entry)) ⌝ }
 {
-    if m.job < 1024 {
+    if m.job < NO_RECORD {
         out[m.job as usize] = m.tick + m.left;
     }
 }

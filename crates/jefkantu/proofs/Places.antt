@@ -30,7 +30,7 @@ use Rattle.inspect_layout.specs.Rules.{buildLayoutRules}
 use Rattle.inspect_places.specs.Rules.{placeRules}
 use Rattle.inspect_members.specs.Rules.{widthRules, rankRules}
 use Rattle.inspect_tests.specs.Rules.{testRules}
-use Rattle.inspect.specs.Rules.{recordRules, buildRules, checkRules, checkAnswer}
+use Rattle.inspect.specs.Rules.{buildRecordRules, buildRules, checkRules, checkAnswer}
 use Rattle.script.specs.Script.{recordsIn, wholeRecords, releaseRules, scriptRules}
 use Rattle.run.specs.Run.{runRules, runAnswer}
 use Rattle.jefkantu.specs.Word.{FitsWord}
@@ -100,8 +100,8 @@ layout-places : (o : Order) (s : List ℕ) → PlacesFit (buildLayoutRules o s)
 unfolding PlacesFit buildLayoutRules
 layout-places o s = (omega arith, (omega arith, (omega arith, (omega arith, tt))))
 
-record-places : (o : Order) (b : Build) → o .tasks ≤ 65_536 → b .partitions ≤ 65_536 → PlacesFit (recordRules o b)
-unfolding PlacesFit recordRules placeRules widthRules rankRules testRules
+record-places : (o : Order) (b : Build) → o .tasks ≤ 65_536 → b .partitions ≤ 65_536 → PlacesFit (buildRecordRules o b)
+unfolding PlacesFit buildRecordRules placeRules widthRules rankRules testRules
 record-places o b few small =
     places-append (placeRules o b) _ (places-joined _ (b .partitions) (λ i l. (omega arith, tt)))
     (places-append (widthRules o b) _ (places-joined _ (o .tasks) (λ i l. (omega arith, tt)))

@@ -8,12 +8,16 @@ ghost use lib.Bits.{bitOr};
 ghost use lib.Dec.{ltb};
 ghost use lib.ListN.{length, getD};
 ghost use Rattle.laws.specs.Choice.{pick};
+ghost use Rattle.model.specs.Limits.{mostRecords};
 ghost use Rattle.stepper.specs.Ranks.{LowestRank};
 ghost use Rattle.stepper.specs.Follow.{Ready, Follows, StartsOne};
 
+// Stands where there is no record.
+pub const NO_RECORD: u16 = Release::MOST as u16;
+
 // What a partition holds before a tick: the ranks of the members that wait, a bit each; by rank, the member's oldest
 // record that has not started; the partition's first record that has not joined; the record that runs; its time left.
-// Where there is no such record, it is Release::MOST.
+// Where there is no such record, it is NO_RECORD.
 pub struct Machine {
     pub tick: u32,
     pub waiting: u32,
@@ -25,10 +29,10 @@ pub struct Machine {
 
 // There is a record i, and it joins before a tick.
 pub fn joined(keys: &[u32; Release::MOST], i: u16, tick: u32) -> bool
-    requires { ⌜ length (now keys) ≡ 1024 ⌝ }
-    ensures { λ r. ⌜ r ≡ (ltb i 1024 && ltb (getD (now (keys .entry)) i 0 / 32) tick) ⌝ }
+    requires { ⌜ length (now keys) ≡ mostRecords ⌝ }
+    ensures { λ r. ⌜ r ≡ (ltb i mostRecords && ltb (getD (now (keys .entry)) i 0 / 32) tick) ⌝ }
 {
-    if i < 1024 {
+    if i < NO_RECORD {
         keys[i as usize] / 32 < tick
     } else {
         false
@@ -78,7 +82,7 @@ impl Machine {
             return self;
         }
         if self.waiting == 0 {
-            self.job = 1024;
+            self.job = NO_RECORD;
             return self;
         }
         let rank = lowest(self.waiting);
