@@ -1,2 +1,2 @@
-pub mod Condition3
+pub mod Kept
 pub mod Runs

@@ -3,6 +3,7 @@ use mathlib.Core.Path.{_≡_, refl, sym, ap, _∙_, subst}
 use mathlib.Core.Bool.{Bool, true, false, _&&_}
 use mathlib.Core.Logic.{_⊎_, ⊎-elim}
 use Prim.Native.Nat.{ℕ, _+_, _≤_, _<_}
+use native.Mathlib.Decide.{decLt}
 use native.Mathlib.Omega.{arith}
 use lib.Dec.{ltb, eqb}
 use lib.ListN.{getD}
@@ -35,17 +36,26 @@ module _ (o : Order) (b : Build) (limits : WithinLimits o) (results : Results) (
   abbrev worstOf : ℕ → ℕ
   worstOf i = getD (results .worsts) i 0
 
-  passes : (i : ℕ) → i < o .tasks → 0 < worstOf i → verdictHere o b i ≡ Passes (worstOf i)
-  passes i l some = (let e = are .responses i l in some-response (verdictHere o b i) (omega (arith, e, some)) ∙ ap Passes (sym e))
+  -- the first that is not right is no higher than the lowest that fails
+  upto-lowest : runFrom right 0 (o .tasks) ≤ are .lowest
+  upto-lowest = elim (decLt (are .lowest) (runFrom right 0 (o .tasks))) [
+    | yes below ↦ (let here : are .lowest ≡ 0 + are .lowest = omega arith in
+        let both = and-both (ltb 0 (worstOf (are .lowest))) _ (ap right here ∙ run-passes right 0 (o .tasks) (are .lowest) below) in
+        absurd (omega (arith, ltb-true 0 (worstOf (are .lowest)) (both .0), are .none)))
+    | no not-below ↦ omega (arith, not-below)
+  ]
 
-  pass-at : (i : ℕ) → i < o .tasks → right i ≡ true → AllPass (taskTestRules o b i)
+  passes : (i : ℕ) → i < o .tasks → i ≤ runFrom right 0 (o .tasks) → 0 < worstOf i → verdictHere o b i ≡ Passes (worstOf i)
+  passes i l upto some = (let e = are .responses i l (omega (arith, upto, upto-lowest)) in some-response (verdictHere o b i) (omega (arith, e, some)) ∙ ap Passes (sym e))
+
+  pass-at : (i : ℕ) → i < o .tasks → i ≤ runFrom right 0 (o .tasks) → right i ≡ true → AllPass (taskTestRules o b i)
   unfolding AllPass
-  pass-at i l e =
+  pass-at i l upto e =
       let both = and-both (ltb 0 (worstOf i)) _ e in
-      subst (λ (v : Verdict). AllPass (verdictRules o (membersOf b (homeOf b i)) i (memberOf b i .response) v)) (sym (passes i l (ltb-true _ _ (both .0)))) (refl, (refl, (refl, (both .1, tt))))
+      subst (λ (v : Verdict). AllPass (verdictRules o (membersOf b (homeOf b i)) i (memberOf b i .response) v)) (sym (passes i l upto (ltb-true _ _ (both .0)))) (refl, (refl, (refl, (both .1, tt))))
 
   pass-below : (i : ℕ) → i ≤ o .tasks → i ≤ runFrom right 0 (o .tasks) → AllPass (joined (taskTestRules o b) i)
-  pass-below i le upto = scan-all (taskTestRules o b) i (λ j l. pass-at j (omega arith) (ap right (omega arith) ∙ run-passes right 0 (o .tasks) j (omega arith)))
+  pass-below i le upto = scan-all (taskTestRules o b) i (λ j l. pass-at j (omega arith) (omega arith) (ap right (omega arith) ∙ run-passes right 0 (o .tasks) j (omega arith)))
 
   -- all are right
   pub all-right : runFrom right 0 (o .tasks) ≡ o .tasks → firstBroken 0 (testRules o b) ≡ Done 0
@@ -70,10 +80,10 @@ module _ (o : Order) (b : Build) (limits : WithinLimits o) (results : Results) (
     -- 30
     pub refused-response : 0 < worstOf i → firstBroken 0 (testRules o b) ≡ Refused (OfBuild (Response i))
     unfolding firstBroken
-    refused-response some = by-verdict (Passes (worstOf i)) (OfBuild (Response i)) (passes i l some) (rw (differs some))
+    refused-response some = by-verdict (Passes (worstOf i)) (OfBuild (Response i)) (passes i l (omega (arith, first)) some) (rw (differs some))
 
     none : worstOf i ≡ 0 → (verdictHere o b i ≡ NoWindow) ⊎ (verdictHere o b i ≡ TooLate)
-    none e = no-response o (membersOf b (homeOf b i)) i limits l (sym (are .responses i l) ∙ e)
+    none e = no-response o (membersOf b (homeOf b i)) i limits l (sym (are .responses i l (omega (arith, first, upto-lowest))) ∙ e)
 
     -- 29
     pub refused-late : worstOf i ≡ 0 → true ≡ windowThere (verdictHere o b i) → firstBroken 0 (testRules o b) ≡ Refused (OfBuild (Late i))

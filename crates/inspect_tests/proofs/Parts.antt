@@ -1,7 +1,8 @@
 -- A partition's members copied from the line, with their rows: what their tests need, and what these give.
-use mathlib.Core.Path.{_≡_, sym, ap, _∙_, subst}
+use mathlib.Core.Path.{_≡_, refl, sym, ap, _∙_, subst}
 use mathlib.Core.Bool.{true}
 use mathlib.Core.List.{List}
+use mathlib.Core.Logic.{_≢_, ⊎-elim}
 use Prim.Native.Nat.{ℕ, _+_, _-_, _≤_, _<_}
 use native.Mathlib.Decide.{decLt, ℕ-discrete}
 use native.Mathlib.Omega.{arith}
@@ -106,7 +107,7 @@ module _ (table keys : List ℕ) (tasks : ℕ) (o : Order) (b : Build) (is : Lin
           let mine : (r : ℕ) → r < size → OpenBelow o b (numberAt own r) (ofRank own lasts r) = λ r l. still (numberAt own r) (omega (arith, is .in-line .count, ranked .within r l)) in
           record { places = places; near = λ r l. mine r l .near; unmet = λ r l. unmet-rows r (ofRank own lasts r) l (mine r l) }
 
-      module _ (lasts worsts lasts′ worsts′ : List ℕ) (tested : TestedRanks rows own size size lasts worsts lasts′ worsts′) where
+      module _ (lowest : ℕ) (lasts worsts : List ℕ) (lowest′ : ℕ) (lasts′ worsts′ : List ℕ) (tested : TestedRanks rows own size size lowest lasts worsts lowest′ lasts′ worsts′) where
         -- windows stay open so long
         pub still-after : ((i : ℕ) → i < tasks → OpenBelow o b i (getD lasts i 0)) → (i : ℕ) → i < tasks → OpenBelow o b i (getD lasts′ i 0)
         still-after still i l = elim (ℕ-discrete (homeOf b i) home) [
@@ -116,14 +117,22 @@ module _ (table keys : List ℕ) (tasks : ℕ) (o : Order) (b : Build) (is : Lin
           | no other ↦ subst (OpenBelow o b i) (sym (tested .other-lasts i (λ r f t e. other (ap (homeOf b) (sym e) ∙ own-home r t)))) (still i l)
         ]
 
-        -- and the responses of all before the next partition are known
-        pub responses-after : ((r : ℕ) → r < first → getD worsts (numberAt keys r) 0 ≡ responseOf (verdictHere o b (numberAt keys r))) →
-            (r : ℕ) → r < first + size → getD worsts′ (numberAt keys r) 0 ≡ responseOf (verdictHere o b (numberAt keys r))
-        responses-after known r l = elim (decLt r first) [
-          | yes early ↦ tested .other-worsts (numberAt keys r) (λ s f t e. absurd (omega (arith, early, apart (first + s) r (omega (arith, size-most)) (omega (arith, size-most)) (sym (own-number s t) ∙ e)))) ∙ known r early
+        -- the lowest that fails
+        pub fails-after : (lowest < tasks → responseOf (verdictHere o b lowest) ≡ 0) → lowest′ < tasks → responseOf (verdictHere o b lowest′) ≡ 0
+        fails-after known l =
+            ⊎-elim
+            (λ e. ap (λ (x : ℕ). responseOf (verdictHere o b x)) e ∙ known (omega (arith, e, l)))
+            (λ f. ap (λ (x : ℕ). responseOf (verdictHere o b x)) (sym (f .2)) ∙ sym (ap responseOf (verdict-at (f .0) (f .1))) ∙ f .3)
+            (tested .fails)
+
+        -- and the responses of all below it before the next partition are known
+        pub responses-after : ((r : ℕ) → r < first → numberAt keys r < lowest → getD worsts (numberAt keys r) 0 ≡ responseOf (verdictHere o b (numberAt keys r))) →
+            (r : ℕ) → r < first + size → numberAt keys r < lowest′ → getD worsts′ (numberAt keys r) 0 ≡ responseOf (verdictHere o b (numberAt keys r))
+        responses-after known r l below = elim (decLt r first) [
+          | yes early ↦ tested .other-worsts (numberAt keys r) (λ s f t e. absurd (omega (arith, early, apart (first + s) r (omega (arith, size-most)) (omega (arith, size-most)) (sym (own-number s t) ∙ e)))) ∙ known r early (omega (arith, below, tested .lower))
           | no late ↦ (let s = r - first in
               let inside : s < size = omega arith in
               let e : first + s ≡ r = omega arith in
               let here : numberAt own s ≡ numberAt keys r = own-number s inside ∙ ap (numberAt keys) e in
-              subst (λ (x : ℕ). getD worsts′ x 0 ≡ responseOf (verdictHere o b x)) here (tested .responses s inside ∙ ap responseOf (verdict-at s inside)))
+              subst (λ (x : ℕ). getD worsts′ x 0 ≡ responseOf (verdictHere o b x)) here (tested .responses s inside (omega (arith, below, here)) ∙ ap responseOf (verdict-at s inside)))
         ]

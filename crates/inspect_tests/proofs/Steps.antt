@@ -1,8 +1,9 @@
 -- What each step of the tests needs and gives: a partition at a place of the line, and the partition of one task.
 use mathlib.Core.Path.{_≡_, refl, sym, ap, _∙_, subst}
-use mathlib.Core.Bool.{Bool, false}
+use mathlib.Core.Bool.{Bool, true, false}
 use mathlib.Core.List.{List}
 use Prim.Native.Nat.{ℕ, _+_, _-_, _≤_, _<_}
+use native.Mathlib.Decide.{ℕ-discrete}
 use native.Mathlib.Omega.{arith}
 use lib.Dec.{ltb}
 use lib.ListN.{length, getD, replicate, getD-replicate}
@@ -10,7 +11,7 @@ use borrow.Author.Tests.{eq-eqb, ltb-true, ltb-false}
 use Rattle.model.specs.declared.order.Order.{Order}
 use Rattle.model.specs.declared.build.Member.{Member}
 use Rattle.model.specs.declared.build.Build.{Build}
-use Rattle.model.specs.Limits.{mostTasks}
+use Rattle.model.specs.Limits.{mostTasks, homeOf}
 use Rattle.demand.specs.Priority.{membersOf, rank}
 use Rattle.demand.specs.Test.{responseOf}
 use Rattle.asked.specs.Rows.{RowsFit, rowTask, askedBy, blockingIn}
@@ -23,9 +24,10 @@ use Rattle.roster.proofs.Ranks.{rank-is}
 use Rattle.roster.proofs.Runs.{run-on, run-most, run-passes, run-stops}
 use Rattle.trial.specs.Known.{Apart, Bounds}
 use Rattle.inspect_members.proofs.Stretches.{homes-rise, placed}
+use Rattle.inspect_tests.specs.declared.Results.{Results}
 use Rattle.inspect_tests.specs.Rules.{windowThere}
-use Rattle.inspect_tests.specs.Results.{SomeLineup, verdictHere, OpenBelow, TestedRanks, TestedBefore, ResultsFor, TaskThere}
-use Rattle.inspect_tests.proofs.Parts.{few-tasks, size-few, ranked, own-place, own-apart, next-ends, fit, verdict-at, unmet-rows, bounds-of, still-after, responses-after}
+use Rattle.inspect_tests.specs.Results.{Lineup, SomeLineup, verdictHere, OpenBelow, TestedRanks, TestedBefore, ResultsFor, TaskThere}
+use Rattle.inspect_tests.proofs.Parts.{few-tasks, size-few, ranked, own-place, own-apart, next-ends, fit, verdict-at, unmet-rows, bounds-of, still-after, fails-after, responses-after}
 use Rattle.inspect_tests.proofs.Verdicts.{window-over}
 
 -- a copy of so many keys of the line
@@ -33,7 +35,7 @@ abbrev pub Copied : (keys : List ℕ) → (first : ℕ) → (own : List ℕ) →
 Copied keys first own n = (r : ℕ) → r < n → keyAt own r ≡ keyAt keys (first + r)
 
 -- nothing tested
-pub before-all : (table keys : List ℕ) (tasks : ℕ) → TestedBefore table keys tasks 0 (replicate 32 0) (replicate 32 0)
+pub before-all : (table keys : List ℕ) (tasks : ℕ) → TestedBefore table keys tasks 0 mostTasks (replicate 32 0) (replicate 32 0)
 before-all table keys tasks =
     record {
       upto = omega arith;
@@ -43,20 +45,26 @@ before-all table keys tasks =
       still = λ o b is i l.
           let zero-there : _≡_ {A = ℕ} (getD (replicate 32 0) i 0) 0 = getD-replicate 32 i 0 0 (omega (arith, few-tasks table keys tasks o b is)) in
           subst (OpenBelow o b i) (sym zero-there) (record { near = omega arith; unmet = λ s k. absurd (omega arith) });
+      fails = λ o b is l. absurd (omega (arith, l, few-tasks table keys tasks o b is));
+      none = refl;
       responses = λ o b is r l. absurd (omega arith);
     }
 
 -- all tested
-pub after-all : (table keys : List ℕ) (tasks : ℕ) (first : ℕ) (lasts worsts : List ℕ) → tasks ≤ first → TestedBefore table keys tasks first lasts worsts → ResultsFor table keys tasks (record { worsts = worsts; lasts = lasts })
-after-all table keys tasks first lasts worsts all known o b is =
+pub after-all : (table keys : List ℕ) (tasks : ℕ) (first lowest : ℕ) (lasts worsts : List ℕ) → tasks ≤ first → TestedBefore table keys tasks first lowest lasts worsts → ResultsFor table keys tasks (record { worsts = worsts; lasts = lasts })
+after-all table keys tasks first lowest lasts worsts all known o b is =
     record {
-      responses = λ i l.
-          let place = placed o b (is .in-line .limits) keys (is .in-line .line) i l in
-          subst (λ (x : ℕ). getD worsts x 0 ≡ responseOf (verdictHere o b x)) (place .2) (known .responses o b is (place .0) (omega (arith, place .1, is .in-line .count, all)));
+      lowest = lowest;
+      none = known .none;
+      responses = λ i l upto. elim (ℕ-discrete i lowest) [
+        | yes same ↦ ap (λ (x : ℕ). getD worsts x 0) same ∙ known .none ∙ sym (known .fails o b is (omega (arith, same, l, is .in-line .count))) ∙ ap (λ (x : ℕ). responseOf (verdictHere o b x)) (sym same)
+        | no other ↦ (let place = placed o b (is .in-line .limits) keys (is .in-line .line) i l in
+            subst (λ (x : ℕ). getD worsts x 0 ≡ responseOf (verdictHere o b x)) (place .2) (known .responses o b is (place .0) (omega (arith, place .1, is .in-line .count, all)) (omega (arith, place .2, other, upto))))
+      ];
       still = λ i l. known .still o b is i (omega (arith, is .in-line .count));
     }
 
-module _ (table keys : List ℕ) (tasks first : ℕ) (lasts worsts : List ℕ) (some : SomeLineup table keys tasks) (here : first < tasks) (known : TestedBefore table keys tasks first lasts worsts) where
+module _ (table keys : List ℕ) (tasks first lowest : ℕ) (lasts worsts : List ℕ) (some : SomeLineup table keys tasks) (here : first < tasks) (known : TestedBefore table keys tasks first lowest lasts worsts) where
   abbrev home : ℕ
   home = homeIn (keyAt keys first)
 
@@ -76,7 +84,7 @@ module _ (table keys : List ℕ) (tasks first : ℕ) (lasts worsts : List ℕ) (
 
   module _ (own rows : List ℕ) where
     needs-at : Copied keys first own (partSize keys tasks first home) → RowsInLine table own (partSize keys tasks first home) rows →
-        RowsFit rows (partSize keys tasks first home) × Apart own (partSize keys tasks first home) × Bounds rows own (partSize keys tasks first home) lasts × (length worsts ≡ mostTasks)
+        RowsFit rows (partSize keys tasks first home) × Apart own (partSize keys tasks first home) × Bounds rows own (partSize keys tasks first home) lasts × (length worsts ≡ mostTasks) × (getD worsts lowest 0 ≡ 0)
     needs-at copied filled =
         let o = some .0 in
         let b = some .1 in
@@ -85,14 +93,15 @@ module _ (table keys : List ℕ) (tasks first : ℕ) (lasts worsts : List ℕ) (
           own-apart table keys tasks o b is first home part-from own copied,
           bounds-of table keys tasks o b is first home part-from own copied rows filled lasts (known .lasts-places) (known .still o b is),
           known .worsts-places,
+          known .none,
         )
 
-    pub part-needs : (n : ℕ) → n ≡ partSize keys tasks first home → Copied keys first own n → RowsInLine table own n rows → RowsFit rows n × Apart own n × Bounds rows own n lasts × (length worsts ≡ mostTasks)
-    part-needs n e = subst (λ (x : ℕ). Copied keys first own x → RowsInLine table own x rows → RowsFit rows x × Apart own x × Bounds rows own x lasts × (length worsts ≡ mostTasks)) (sym e) needs-at
+    pub part-needs : (n : ℕ) → n ≡ partSize keys tasks first home → Copied keys first own n → RowsInLine table own n rows → RowsFit rows n × Apart own n × Bounds rows own n lasts × (length worsts ≡ mostTasks) × (getD worsts lowest 0 ≡ 0)
+    part-needs n e = subst (λ (x : ℕ). Copied keys first own x → RowsInLine table own x rows → RowsFit rows x × Apart own x × Bounds rows own x lasts × (length worsts ≡ mostTasks) × (getD worsts lowest 0 ≡ 0)) (sym e) needs-at
 
-    gives-at : (lasts′ worsts′ : List ℕ) → Copied keys first own (partSize keys tasks first home) → RowsInLine table own (partSize keys tasks first home) rows →
-        TestedRanks rows own (partSize keys tasks first home) (partSize keys tasks first home) lasts worsts lasts′ worsts′ → (0 < partSize keys tasks first home) × TestedBefore table keys tasks (first + partSize keys tasks first home) lasts′ worsts′
-    gives-at lasts′ worsts′ copied filled tested =
+    gives-at : (lowest′ : ℕ) (lasts′ worsts′ : List ℕ) → Copied keys first own (partSize keys tasks first home) → RowsInLine table own (partSize keys tasks first home) rows →
+        TestedRanks rows own (partSize keys tasks first home) (partSize keys tasks first home) lowest lasts worsts lowest′ lasts′ worsts′ → (0 < partSize keys tasks first home) × TestedBefore table keys tasks (first + partSize keys tasks first home) lowest′ lasts′ worsts′
+    gives-at lowest′ lasts′ worsts′ copied filled tested =
         let o₀ = some .0 in
         let b₀ = some .1 in
         let is₀ = some .2 in (
@@ -102,15 +111,17 @@ module _ (table keys : List ℕ) (tasks first : ℕ) (lasts worsts : List ℕ) (
             ends = next-ends table keys tasks o₀ b₀ is₀ first home part-from own copied;
             lasts-places = tested .bounds .places;
             worsts-places = tested .places;
-            still = λ o b is. still-after table keys tasks o b is first home part-from own copied rows filled lasts worsts lasts′ worsts′ tested (known .still o b is);
-            responses = λ o b is. responses-after table keys tasks o b is first home part-from own copied rows filled lasts worsts lasts′ worsts′ tested (known .responses o b is);
+            still = λ o b is. still-after table keys tasks o b is first home part-from own copied rows filled lowest lasts worsts lowest′ lasts′ worsts′ tested (known .still o b is);
+            fails = λ o b is. fails-after table keys tasks o b is first home part-from own copied rows filled lowest lasts worsts lowest′ lasts′ worsts′ tested (known .fails o b is);
+            none = tested .none;
+            responses = λ o b is. responses-after table keys tasks o b is first home part-from own copied rows filled lowest lasts worsts lowest′ lasts′ worsts′ tested (known .responses o b is);
           },
         )
 
-    pub part-gives : (n : ℕ) → n ≡ partSize keys tasks first home → (lasts′ worsts′ : List ℕ) → Copied keys first own n → RowsInLine table own n rows →
-        TestedRanks rows own n n lasts worsts lasts′ worsts′ → (0 < n) × TestedBefore table keys tasks (first + n) lasts′ worsts′
-    part-gives n e lasts′ worsts′ =
-        subst (λ (x : ℕ). Copied keys first own x → RowsInLine table own x rows → TestedRanks rows own x x lasts worsts lasts′ worsts′ → (0 < x) × TestedBefore table keys tasks (first + x) lasts′ worsts′) (sym e) (gives-at lasts′ worsts′)
+    pub part-gives : (n : ℕ) → n ≡ partSize keys tasks first home → (lowest′ : ℕ) (lasts′ worsts′ : List ℕ) → Copied keys first own n → RowsInLine table own n rows →
+        TestedRanks rows own n n lowest lasts worsts lowest′ lasts′ worsts′ → (0 < n) × TestedBefore table keys tasks (first + n) lowest′ lasts′ worsts′
+    part-gives n e lowest′ lasts′ worsts′ =
+        subst (λ (x : ℕ). Copied keys first own x → RowsInLine table own x rows → TestedRanks rows own x x lowest lasts worsts lowest′ lasts′ worsts′ → (0 < x) × TestedBefore table keys tasks (first + x) lowest′ lasts′ worsts′) (sym e) (gives-at lowest′ lasts′ worsts′)
 
 -- a count of n is few
 pub part-few : (table keys : List ℕ) (tasks : ℕ) → SomeLineup table keys tasks → (first n : ℕ) (lives : ℕ) → n ≡ partSize keys tasks first lives → n ≤ mostTasks

@@ -1,10 +1,12 @@
 -- What the tests of all tasks give, by number, while they go on and at their end. Inner definitions; Rules.antt has the document's.
-use Prim.Native.Nat.{ℕ, _+_, _≤_, _<_}
+use Prim.Native.Nat.{ℕ, _+_, _-_, _≤_, _<_, min}
 use mathlib.Core.Path.{_≡_}
 use mathlib.Core.Bool.{Bool, _&&_}
 use mathlib.Core.List.{List}
+use mathlib.Core.Logic.{_⊎_}
 use lib.Dec.{ltb, eqb}
 use lib.ListN.{length, getD}
+use Rattle.laws.specs.Choice.{pick}
 use Rattle.model.specs.declared.order.Order.{Order}
 use Rattle.model.specs.declared.build.Member.{Member}
 use Rattle.model.specs.declared.build.Build.{Build}
@@ -13,7 +15,9 @@ use Rattle.demand.specs.declared.Verdict.{Verdict}
 use Rattle.demand.specs.Priority.{membersOf, rank}
 use Rattle.demand.specs.Releases.{workBy}
 use Rattle.demand.specs.Test.{blocking, higherWork, verdict, responseOf}
+use Rattle.asked.specs.Rows.{askedBy, blockingIn}
 use Rattle.asked.specs.Met.{UnmetBelow}
+use Rattle.verdict.specs.declared.Tested.{Tested}
 use Rattle.roster.specs.Keys.{homeIn, keyAt, numberAt}
 use Rattle.roster.specs.Rows.{RowsByNumber}
 use Rattle.trial.specs.Known.{ofRank, verdictAt, Bounds, OnlyRanks}
@@ -39,26 +43,53 @@ pub record OpenBelow (o : Order) (b : Build) (i last : ℕ) : Type 0 where
   pub near : last ≤ 2_000_000
   pub unmet : UnmetBelow (λ w. higherWork o (membersOf b (homeOf b i)) i w + workBy (taskOf o i) w) (blocking o (membersOf b (homeOf b i)) i) last
 
--- the ranks before this one tested: by number their worst responses, 0 of one that does not pass, and ticks before which windows do not close
-pub record TestedRanks (rows keys : List ℕ) (count to : ℕ) (lasts worsts lasts′ worsts′ : List ℕ) : Type 0 where
+-- a number for the member above one of a rank, 0 for the highest
+abbrev pub lastAbove : (keys lasts : List ℕ) → (rank : ℕ) → ℕ
+lastAbove keys lasts rank = pick (ltb 0 rank) (ofRank keys lasts (rank - 1)) 0
+
+-- a member tested if its number is below the lowest that fails; if not, no more than a tick before which its window does not close
+pub record TestedBelow (rows keys : List ℕ) (count rank lowest : ℕ) (r : Tested) : Type 0 where
+  pub near : r .last ≤ 2_000_000
+  pub unmet : UnmetBelow (askedBy rows (rank + 1)) (blockingIn rows count rank) (r .last)
+  pub worst : numberAt keys rank < lowest → r .worst ≡ responseOf (verdictAt rows count rank)
+  pub left-out : lowest ≤ numberAt keys rank → r .worst ≡ 0
+
+-- the lowest number without a response, with one task more
+pub record Lowered (lowest number worst r : ℕ) : Type 0 where
+  pub passing : 0 < worst → r ≡ lowest
+  pub failing : worst ≡ 0 → r ≡ min lowest number
+
+-- a member of this number does not pass
+abbrev pub FailsAmong : (rows keys : List ℕ) → (count number : ℕ) → Type 0
+FailsAmong rows keys count number = (r : ℕ) × (r < count) × (numberAt keys r ≡ number) × (responseOf (verdictAt rows count r) ≡ 0)
+
+-- the ranks before this one tested: the lowest number that fails; by number the worst responses of those below it; and of all ticks before which windows do not close
+pub record TestedRanks (rows keys : List ℕ) (count to lowest : ℕ) (lasts worsts : List ℕ) (lowest′ : ℕ) (lasts′ worsts′ : List ℕ) : Type 0 where
   pub bounds : Bounds rows keys count lasts′
   pub places : length worsts′ ≡ mostTasks
-  pub responses : (r : ℕ) → r < to → ofRank keys worsts′ r ≡ responseOf (verdictAt rows count r)
+  pub lower : lowest′ ≤ lowest
+  pub fails : (lowest′ ≡ lowest) ⊎ FailsAmong rows keys count lowest′
+  pub none : getD worsts′ lowest′ 0 ≡ 0
+  pub responses : (r : ℕ) → r < to → numberAt keys r < lowest′ → ofRank keys worsts′ r ≡ responseOf (verdictAt rows count r)
   pub other-lasts : OnlyRanks keys 0 to lasts lasts′
   pub other-worsts : OnlyRanks keys 0 to worsts worsts′
 
--- the tasks before this place of the line tested, of whatever order and build the line is; a partition ends there
-pub record TestedBefore (table keys : List ℕ) (tasks first : ℕ) (lasts worsts : List ℕ) : Type 0 where
+-- the tasks before this place of the line tested up to the lowest number that fails, of whatever order and build the line is; a partition ends there
+pub record TestedBefore (table keys : List ℕ) (tasks first lowest : ℕ) (lasts worsts : List ℕ) : Type 0 where
   pub upto : first ≤ tasks
   pub ends : (r s : ℕ) → r < first → first ≤ s → s < tasks → homeIn (keyAt keys r) < homeIn (keyAt keys s)
   pub lasts-places : length lasts ≡ mostTasks
   pub worsts-places : length worsts ≡ mostTasks
   pub still : (o : Order) (b : Build) → Lineup table keys tasks o b → (i : ℕ) → i < tasks → OpenBelow o b i (getD lasts i 0)
-  pub responses : (o : Order) (b : Build) → Lineup table keys tasks o b → (r : ℕ) → r < first → getD worsts (numberAt keys r) 0 ≡ responseOf (verdictHere o b (numberAt keys r))
+  pub fails : (o : Order) (b : Build) → Lineup table keys tasks o b → lowest < tasks → responseOf (verdictHere o b lowest) ≡ 0
+  pub none : getD worsts lowest 0 ≡ 0
+  pub responses : (o : Order) (b : Build) → Lineup table keys tasks o b → (r : ℕ) → r < first → numberAt keys r < lowest → getD worsts (numberAt keys r) 0 ≡ responseOf (verdictHere o b (numberAt keys r))
 
--- all tested
+-- all tested, up to the lowest number that fails
 pub record ResultsOf (o : Order) (b : Build) (r : Results) : Type 0 where
-  pub responses : (i : ℕ) → i < o .tasks → getD (r .worsts) i 0 ≡ responseOf (verdictHere o b i)
+  pub lowest : ℕ
+  pub none : getD (r .worsts) lowest 0 ≡ 0
+  pub responses : (i : ℕ) → i < o .tasks → i ≤ lowest → getD (r .worsts) i 0 ≡ responseOf (verdictHere o b i)
   pub still : (i : ℕ) → i < o .tasks → OpenBelow o b i (getD (r .lasts) i 0)
 
 -- of whatever order and build the rows and the line are

@@ -12,7 +12,7 @@ read-unique order numbers word other after others r s = (r .answered ∙ sym (s 
 
 pub write-unique : WriteUnique
 unfolding WriteUnique
-write-unique processors widths periods deadlines runs output word other after others r s = (r .answered ∙ sym (s .answered), r .written ∙ sym (s .written))
+write-unique processors c output word other after others r s = (r .answered ∙ sym (s .answered), r .written ∙ sym (s .written))
 
 pub plan-unique : PlanUnique
 unfolding PlanUnique
@@ -32,7 +32,7 @@ read-tells order numbers word after r = word-tells _ (read-fits order) word (r .
 
 pub write-tells : WriteTells
 unfolding WriteTells WordTells
-write-tells processors widths periods deadlines runs output word after r = word-tells _ (write-fits processors widths periods deadlines runs (length output)) word (r .answered)
+write-tells processors c output word after r = word-tells _ (write-fits processors c (length output)) word (r .answered)
 
 pub plan-tells : PlanTells
 unfolding PlanTells WordTells

@@ -7,8 +7,9 @@ use native.Mathlib.Omega.{arith}
 use Rattle.laws.specs.Choice.{pick}
 use Rattle.laws.specs.Joined.{joined}
 use Rattle.model.specs.declared.answer.Answer.the-variants.{Refused}
-use Rattle.model.specs.Answer.{causePlace, placeOf, countOf}
-use Rattle.model.specs.Rules.{Rule, firstBroken, allHold}
+use Rattle.model.specs.Answer.{causePlace, answerPlace, answerCount}
+use Rattle.model.specs.Rules.{Rule, firstBroken}
+use Rattle.model.proofs.Rules.{AllPass}
 use Rattle.jefkantu.specs.Word.{FitsWord}
 
 -- the place of each rule's refusal fits
@@ -28,17 +29,17 @@ places-joined f (suc n) each = places-append (joined f n) (f n) (places-joined f
 
 -- an answer of rules in turn fits the word, where those after the first part fit once the first part holds
 module _ (count : ℕ) where
-  pub answer-fits : (a b : List Rule) → PlacesFit a → (allHold a → FitsWord (firstBroken count b)) → FitsWord (firstBroken count (a ++ b))
-  unfolding PlacesFit firstBroken allHold placeOf countOf
+  pub answer-fits : (a b : List Rule) → PlacesFit a → (AllPass a → FitsWord (firstBroken count b)) → FitsWord (firstBroken count (a ++ b))
+  unfolding PlacesFit firstBroken AllPass answerPlace answerCount
   answer-fits [] b places rest = rest tt
-  answer-fits (r ∷ a) b places rest = go (λ (h : r .holds ≡ true). answer-fits a b (places .1) (λ all. rest (h, all))) (r .holds) refl
+  answer-fits (r ∷ a) b places rest = go (λ (h : r .fact .test ≡ true). answer-fits a b (places .1) (λ all. rest (h, all))) (r .fact .test) refl
     where
-      go : (r .holds ≡ true → FitsWord (firstBroken count (a ++ b))) → (h : Bool) → r .holds ≡ h → FitsWord (pick h (firstBroken count (a ++ b)) (Refused (r .refusal)))
+      go : (r .fact .test ≡ true → FitsWord (firstBroken count (a ++ b))) → (h : Bool) → r .fact .test ≡ h → FitsWord (pick h (firstBroken count (a ++ b)) (Refused (r .refusal)))
       go on true e = on e
       go on false e = record { place = places .0; count = omega arith }
 
   pub done-fits : count < 4_294_967_296 → FitsWord (firstBroken count [])
-  unfolding firstBroken placeOf countOf
+  unfolding firstBroken answerPlace answerCount
   done-fits few = record { place = omega arith; count = few }
 
 pub alone-fits : (count : ℕ) (rules : List Rule) → PlacesFit rules → count < 4_294_967_296 → FitsWord (firstBroken count rules)

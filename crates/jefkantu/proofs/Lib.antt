@@ -1,3 +1,4 @@
+pub mod Causes
 pub mod Numbers
 pub mod Word
 pub mod Fits

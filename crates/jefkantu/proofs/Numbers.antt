@@ -3,13 +3,13 @@ use mathlib.Core.Path.{_≡_, refl, sym, ap, _∙_}
 use mathlib.Core.List.{List, [], _∷_, _++_, append-nil}
 use Prim.Native.Nat.{ℕ, suc, _+_, _-_, _*_, _≤_, _<_}
 use native.Mathlib.Omega.{arith}
-use lib.ListN.{length, set, take, drop, replicate, length-append, length-replicate}
+use lib.ListN.{length, getD, set, take, drop, replicate, length-append, length-replicate}
 use lib.Seq.{sets-eq, take-at, drop-at, drop-drop}
 use Rattle.laws.specs.Joined.{joined}
 use Rattle.laws.proofs.Joined.{joined-none, joined-more, length-joined}
 use Rattle.model.specs.declared.order.Task.{Task}
-use Rattle.model.specs.Limits.{taskOf}
-use Rattle.jefkantu.specs.Surface.{taskNumbers, orderNumbers}
+use Rattle.model.specs.Limits.{zeroTask}
+use Rattle.jefkantu.specs.Surface.{fourNumbers, orderNumbers}
 
 four-sets : (l : List ℕ) (i a b c d : ℕ) → i + 4 ≤ length l → set (set (set (set l i a) (i + 1) b) (i + 2) c) (i + 3) d ≡ take i l ++ (a ∷ b ∷ c ∷ d ∷ []) ++ drop (i + 4) l
 four-sets l i a b c d h =
@@ -19,8 +19,11 @@ four-sets l i a b c d h =
     rw (e1, e2, e3) (sets-eq (a ∷ b ∷ c ∷ d ∷ []) l i h)
 
 module _ (processors tasks : ℕ) (table : List Task) where
+  abbrev row : ℕ → Task
+  row i = getD table i zeroTask
+
   abbrev each : ℕ → List ℕ
-  each i = taskNumbers (taskOf table i)
+  each i = fourNumbers (row i)
 
   -- the numbers once the first i tasks are in
   abbrev pub front : ℕ → List ℕ
@@ -38,7 +41,7 @@ module _ (processors tasks : ℕ) (table : List Task) where
   pub numbers-length : (i : ℕ) → i ≤ 32 → length (numbersTo i) ≡ 130
   numbers-length i few = simp (length-append, length-replicate) (omega (arith, length-front i))
 
-  pub numbers-more : (i : ℕ) → i < 32 → let at = 2 + 4 * i in let t = taskOf table i in
+  pub numbers-more : (i : ℕ) → i < 32 → let at = 2 + 4 * i in let t = row i in
       set (set (set (set (numbersTo i) at (t .width)) (at + 1) (t .period)) (at + 2) (t .deadline)) (at + 3) (t .run) ≡ numbersTo (i + 1)
   numbers-more i few =
       let at = 2 + 4 * i in

@@ -4,12 +4,12 @@ use mathlib.Core.Path.{_≡_}
 use mathlib.Core.List.{List}
 use lib.ListN.{length}
 use Rattle.order.specs.Order.{readOrder}
-use Rattle.order_out.specs.Write.{writeAnswer}
+use Rattle.order_out.specs.Write.{TaskColumns, writeAnswer}
 use Rattle.plan.specs.Plan.{planAnswer}
 use Rattle.inspect.specs.Rules.{checkAnswer}
 use Rattle.run.specs.Run.{runAnswer}
-use Rattle.jefkantu.specs.Word.{Tells}
-use Rattle.jefkantu.specs.Surface.{ReadsOrder, WritesOrder}
+use Rattle.jefkantu.specs.Word.{TellsAnswer}
+use Rattle.jefkantu.specs.Surface.{ReadsOrder, WritesColumns}
 use Rattle.jefkantu.specs.Builds.{PlansBuild, ChecksBuild}
 use Rattle.jefkantu.specs.Runs.{RunsScript}
 
@@ -19,8 +19,8 @@ ReadUnique = (order numbers : List ℕ) (word other : ℕ) (after others : List 
     (word ≡ other) × (after ≡ others)
 
 unfoldable pub WriteUnique : Type 0
-WriteUnique = (processors : ℕ) (widths periods deadlines runs output : List ℕ) (word other : ℕ) (after others : List ℕ) →
-    WritesOrder processors widths periods deadlines runs output word after → WritesOrder processors widths periods deadlines runs output other others →
+WriteUnique = (processors : ℕ) (c : TaskColumns) (output : List ℕ) (word other : ℕ) (after others : List ℕ) →
+    WritesColumns processors c output word after → WritesColumns processors c output other others →
     (word ≡ other) × (after ≡ others)
 
 unfoldable pub PlanUnique : Type 0
@@ -37,18 +37,18 @@ RunUnique = (order build script output : List ℕ) (word other : ℕ) (after oth
 
 -- "Every answer has a number, a place and a count": all three come out of the word, whatever the input
 unfoldable pub ReadTells : Type 0
-ReadTells = (order numbers : List ℕ) (word : ℕ) (after : List ℕ) → ReadsOrder order numbers word after → Tells word (readOrder order .answer)
+ReadTells = (order numbers : List ℕ) (word : ℕ) (after : List ℕ) → ReadsOrder order numbers word after → TellsAnswer word (readOrder order .answer)
 
 unfoldable pub WriteTells : Type 0
-WriteTells = (processors : ℕ) (widths periods deadlines runs output : List ℕ) (word : ℕ) (after : List ℕ) →
-    WritesOrder processors widths periods deadlines runs output word after → Tells word (writeAnswer processors widths periods deadlines runs (length output))
+WriteTells = (processors : ℕ) (c : TaskColumns) (output : List ℕ) (word : ℕ) (after : List ℕ) →
+    WritesColumns processors c output word after → TellsAnswer word (writeAnswer processors c (length output))
 
 unfoldable pub PlanTells : Type 0
-PlanTells = (order output : List ℕ) (word : ℕ) (after : List ℕ) → PlansBuild order output word after → Tells word (planAnswer order (length output))
+PlanTells = (order output : List ℕ) (word : ℕ) (after : List ℕ) → PlansBuild order output word after → TellsAnswer word (planAnswer order (length output))
 
 unfoldable pub CheckTells : Type 0
-CheckTells = (order build : List ℕ) (word : ℕ) → ChecksBuild order build word → Tells word (checkAnswer order build)
+CheckTells = (order build : List ℕ) (word : ℕ) → ChecksBuild order build word → TellsAnswer word (checkAnswer order build)
 
 unfoldable pub RunTells : Type 0
 RunTells = (order build script output : List ℕ) (word : ℕ) (after : List ℕ) →
-    RunsScript order build script output word after → Tells word (runAnswer order build script (length output))
+    RunsScript order build script output word after → TellsAnswer word (runAnswer order build script (length output))

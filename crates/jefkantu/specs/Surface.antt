@@ -11,16 +11,16 @@ use Rattle.model.specs.declared.answer.Answer.the-variants.{Done, Refused}
 use Rattle.model.specs.Answer.{outputAfter}
 use Rattle.model.specs.Limits.{mostTasks, taskOf}
 use Rattle.order.specs.Order.{readOrder, orderBytes}
-use Rattle.order_out.specs.Write.{columnOrder, writeAnswer}
+use Rattle.order_out.specs.Write.{TaskColumns, columnOrder, writeAnswer}
 use Rattle.jefkantu.specs.Word.{answerWord}
 
 -- a task as four numbers: m, T, D, C
-abbrev pub taskNumbers : Task → List ℕ
-taskNumbers t = t .width ∷ t .period ∷ t .deadline ∷ t .run ∷ []
+abbrev pub fourNumbers : Task → List ℕ
+fourNumbers t = t .width ∷ t .period ∷ t .deadline ∷ t .run ∷ []
 
 -- "An order read gives M, n and the table": 2 + 4 * 32 numbers
 unfoldable pub orderNumbers : Order → List ℕ
-orderNumbers o = o .processors ∷ o .tasks ∷ joined (λ i. taskNumbers (taskOf (o .table) i)) mostTasks
+orderNumbers o = o .processors ∷ o .tasks ∷ joined (λ i. fourNumbers (taskOf o i)) mostTasks
 
 -- the caller's numbers after a reading: a refusal leaves them as they were
 unfoldable pub numbersAfter : Answer → Order → List ℕ → List ℕ
@@ -33,6 +33,6 @@ pub record ReadsOrder (order numbers : List ℕ) (word : ℕ) (after : List ℕ)
   pub written : after ≡ numbersAfter (readOrder order .answer) (readOrder order .order) numbers
 
 -- what jefkantu_write_order promises
-pub record WritesOrder (processors : ℕ) (widths periods deadlines runs output : List ℕ) (word : ℕ) (after : List ℕ) : Type 0 where
-  pub answered : word ≡ answerWord (writeAnswer processors widths periods deadlines runs (length output))
-  pub written : after ≡ outputAfter (writeAnswer processors widths periods deadlines runs (length output)) (orderBytes (columnOrder processors widths periods deadlines runs)) output
+pub record WritesColumns (processors : ℕ) (c : TaskColumns) (output : List ℕ) (word : ℕ) (after : List ℕ) : Type 0 where
+  pub answered : word ≡ answerWord (writeAnswer processors c (length output))
+  pub written : after ≡ outputAfter (writeAnswer processors c (length output)) (orderBytes (columnOrder processors c)) output

@@ -2,11 +2,11 @@
 use Prim.Native.Nat.{ℕ, _+_, _*_, _/_, _%_, _<_}
 use mathlib.Core.Path.{_≡_}
 use Rattle.model.specs.declared.answer.Answer.{Answer}
-use Rattle.model.specs.Answer.{numberOf, placeOf, countOf}
+use Rattle.model.specs.Answer.{answerNumber, answerPlace, answerCount}
 
 -- number + place * 2^16 + count * 2^32
 unfoldable pub answerWord : Answer → ℕ
-answerWord answer = numberOf answer + placeOf answer * 65_536 + countOf answer * 4_294_967_296
+answerWord answer = answerNumber answer + answerPlace answer * 65_536 + answerCount answer * 4_294_967_296
 
 -- what a caller takes out of a word
 abbrev pub wordNumber : ℕ → ℕ
@@ -19,16 +19,16 @@ abbrev pub wordCount : ℕ → ℕ
 wordCount word = word / 4_294_967_296
 
 -- a word tells an answer: the number, the place and the count that come out of it are the answer's
-pub record Tells (word : ℕ) (answer : Answer) : Type 0 where
-  pub number : wordNumber word ≡ numberOf answer
-  pub place : wordPlace word ≡ placeOf answer
-  pub count : wordCount word ≡ countOf answer
+pub record TellsAnswer (word : ℕ) (answer : Answer) : Type 0 where
+  pub number : wordNumber word ≡ answerNumber answer
+  pub place : wordPlace word ≡ answerPlace answer
+  pub count : wordCount word ≡ answerCount answer
 
 -- an answer whose place fits 16 bits and whose count fits 32: every number does fit 16
 pub record FitsWord (answer : Answer) : Type 0 where
-  pub place : placeOf answer < 65_536
-  pub count : countOf answer < 4_294_967_296
+  pub place : answerPlace answer < 65_536
+  pub count : answerCount answer < 4_294_967_296
 
 -- the word of such an answer tells it
 unfoldable pub WordTells : Type 0
-WordTells = (answer : Answer) → FitsWord answer → (word : ℕ) → word ≡ answerWord answer → Tells word answer
+WordTells = (answer : Answer) → FitsWord answer → (word : ℕ) → word ≡ answerWord answer → TellsAnswer word answer

@@ -8,7 +8,7 @@ use Rattle.laws.specs.Joined.{joined}
 use Rattle.search.specs.Smallest.{firstOf, smallest}
 use Rattle.search.specs.declared.Found.the-variants.{Nothing}
 use Rattle.bits.specs.Field.{bitAt, field}
-use Rattle.bits.specs.Layout.{bitsIn, bytesIn, packed, numberIn, recordBytes, numbersAt}
+use Rattle.bits.specs.Layout.{packed, recordBytes, numbersAt}
 use Rattle.model.specs.declared.answer.Refusal.the-variants.{OfOrder, OfCall}
 use Rattle.model.specs.declared.answer.OrderCause.the-variants.{Width, Period, RunTime}
 use Rattle.model.specs.declared.answer.CallCause.the-variants.{FirstFit}
@@ -39,7 +39,7 @@ unfolding window
 eight-window = met-never (windowDemand (alone (seven 5)) together 1) 1 (λ t a b. eight-asks t a)
 
 pub points : Points
-unfolding sum largest every joined smallest firstOf livingIn outranks higher lower rank cost ceilDiv releasesIn releasesBy workIn workBy jobs firstMet blocking windowDemand window higherWork startDemand start largestFound response worst verdict isUnplaced goesBefore turnBefore nextTask memberPasses membersPass accepts lowestAccepting opening turnTaken unlessRefused turnsTaken firstFit recordedAs buildOf recorded fittedOf readOrder firstBroken orderRules layoutRules headerRules spareRules rangeRules orderAt headerOf taskFields field bitAt orderBytes tableBytes buildBytes recordBytes partitionBytes memberBytes packed numberIn numbersAt
+unfolding sum largest every joined smallest firstOf livingIn outranks higher lower rank cost ceilDiv releasesIn releasesBy workIn workBy jobs firstMet blocking windowDemand window higherWork startDemand start largestFound response worst verdict isUnplaced goesBefore turnBefore nextTask memberPasses membersPass accepts lowestAccepting opening turnTaken unlessRefused turnsTaken firstFit recordedAs buildOf recorded fittedOf readOrder firstBroken orderRules layoutRules headerRules spareRules rangeRules orderAt headerOf taskFields field bitAt orderBytes tableBytes buildBytes recordBytes partitionBytes memberBytes packed numbersAt
 points =
     record {
       p1 = record { order-bytes = refl; build-bytes = refl; gives = order-accepted _ _ refl (sampleBuildOn 4) refl };

@@ -5,12 +5,12 @@ use model::Build;
 use model::Member;
 use model::Order;
 use model::Partition;
+use model::Refusal;
+ghost use Prim.Native.Nat.{_≤_};
+ghost use Rattle.model.specs.Limits.{mostTasks, mostPartitions};
 
 // One byte more than the longest order, so that a longer input is refused.
-const MOST_ORDER: usize = 292;
-
-// The longest build: 3 + 2 * 32 + 4 * 32 bytes.
-const MOST_BUILD: usize = 195;
+const MOST_READ: usize = Order::MOST_BYTES + 1;
 
 fn put(number: u64) {
     io::write_all(1, b" ");
@@ -46,47 +46,58 @@ fn show_member(number: u64, member: Member) {
     end_line();
 }
 
-fn show_partitions(places: [Partition; Build::MOST_PARTITIONS], partitions: u32) {
+fn show_partitions(places: [Partition; Build::MOST_PARTITIONS], partitions: usize)
+    requires { ⌜ partitions ≤ mostPartitions ⌝ }
+{
     let mut i: usize = 0;
-    while i < Build::MOST_PARTITIONS {
-        if i < partitions as usize {
-            let place = places[i];
-            show_partition(i as u64, place);
-        }
+    while i < partitions {
+        let place = places[i];
+        show_partition(i as u64, place);
         i += 1;
     }
 }
 
-fn show_members(members: [Member; Order::MOST_TASKS], tasks: u32) {
+fn show_members(members: [Member; Order::MOST_TASKS], tasks: usize)
+    requires { ⌜ tasks ≤ mostTasks ⌝ }
+{
     let mut i: usize = 0;
-    while i < Order::MOST_TASKS {
-        if i < tasks as usize {
-            let member = members[i];
-            show_member(i as u64, member);
-        }
+    while i < tasks {
+        let member = members[i];
+        show_member(i as u64, member);
         i += 1;
     }
+}
+
+// A plan has no such build, and would not be cut short in silence.
+fn show_overfull() {
+    io::write_all(2, b"the build counts more than it may\n");
 }
 
 fn show_build(bytes: &[u8]) {
     let header = build::read_build_header(bytes);
-    if header.partitions <= 32 {
-        if header.tasks <= 32 {
-            show_header(header);
-            let read = build::read_build(bytes, header);
-            let places = read.places;
-            let members = read.members;
-            show_partitions(places, read.partitions);
-            show_members(members, read.tasks);
-        }
+    let partitions = header.partitions as usize;
+    let tasks = header.tasks as usize;
+    if partitions > Build::MOST_PARTITIONS {
+        show_overfull();
+        return;
     }
+    if tasks > Order::MOST_TASKS {
+        show_overfull();
+        return;
+    }
+    let taken = build::take_build(bytes, header);
+    let build = taken.build;
+    let places = build.places;
+    let members = build.members;
+    show_header(header);
+    show_partitions(places, partitions);
+    show_members(members, tasks);
 }
 
-fn show_refusal(answer: Answer) {
-    let word = jefkantu::answer_word(answer);
+fn show_refusal(cause: Refusal) {
     io::write_all(1, b"refused");
-    put(word % 65_536);
-    put(word / 65_536 % 65_536);
+    put(cause.number() as u64);
+    put(cause.place() as u64);
     end_line();
 }
 
@@ -103,18 +114,18 @@ fn show_unreadable() {
 }
 
 fn show_plan(order: &[u8]) {
-    let mut bytes = [0u8; MOST_BUILD];
+    let mut bytes = [0u8; Build::MOST_BYTES];
     let answer = plan::plan(order, &mut bytes);
     match answer {
         Answer::Done(_) => show_build(&bytes),
-        Answer::Refused(_) => show_refusal(answer),
+        Answer::Refused(cause) => show_refusal(cause),
     }
 }
 
 fn main() {
-    let mut order = [0u8; MOST_ORDER];
+    let mut order = [0u8; MOST_READ];
     let size = io::read_full(0, &mut order);
-    if size == MOST_ORDER || has_ended() {
+    if size == MOST_READ || has_ended() {
         show_plan(&order[..size]);
     } else {
         show_unreadable();

@@ -13,7 +13,7 @@ use Rattle.model.specs.Limits.{cost}
 use Rattle.demand.specs.Releases.{releasesBy, workBy}
 use Rattle.asked.specs.Rows.{costAt, rowTask, RowsFit, askedBy, blockingIn}
 use Rattle.asked.specs.Met.{UnmetBelow}
-use Rattle.asked.proofs.Rows.{cost-most}
+use Rattle.asked.proofs.Rows.{cost-most, asked-more}
 
 -- the costs of the members from a rank to before another
 abbrev pub between : List ℕ → (g rank : ℕ) → ℕ
@@ -57,6 +57,21 @@ module _ (rows : List ℕ) (count : ℕ) (fit : RowsFit rows count) where
   pub head : (g rank last : ℕ) → 0 < g → g ≤ rank → rank < count → costAt rows rank ≤ blockingIn rows count rank + 2 + between rows g rank →
       UnmetBelow (askedBy rows g) (blockingIn rows count (g - 1)) last → UnmetBelow (askedBy rows rank) (blockingIn rows count rank + 1) last
   head g rank last some le inside own unmet s l = omega (arith, unmet s l, made-up g rank some le inside own, asks-between g rank s le)
+
+  -- a member's window closes no earlier than that of the one above it: it asks at least what it blocks that one with
+  blocks-more : (rank : ℕ) → 0 < rank → rank < count → blockingIn rows count (rank - 1) ≤ blockingIn rows count rank + costAt rows rank
+  unfolding blockingIn
+  blocks-more rank some inside =
+      let later = largest (λ s. costAt rows (rank + 1 + s)) (count - (rank + 1)) in
+      let each : (s : ℕ) → s < count - (rank - 1 + 1) → costAt rows (rank - 1 + 1 + s) ≤ later - 1 + 1 + costAt rows rank = λ s l. elim (ℕ-discrete s 0) [
+        | yes own ↦ (let e : rank - 1 + 1 + s ≡ rank = omega (arith, own, some) in omega (arith, ap (costAt rows) e))
+        | no other ↦ (let e : rank + 1 + (s - 1) ≡ rank - 1 + 1 + s = omega (arith, other, some) in
+            omega (arith, ap (costAt rows) e, largest-in (λ x. costAt rows (rank + 1 + x)) (count - (rank + 1)) (s - 1) (omega (arith, other, some, l))))
+      ] in
+      omega (arith, largest-le (λ s. costAt rows (rank - 1 + 1 + s)) (count - (rank - 1 + 1)) (later - 1 + 1 + costAt rows rank) each)
+
+  pub taken-over : (rank last : ℕ) → 0 < rank → rank < count → UnmetBelow (askedBy rows rank) (blockingIn rows count (rank - 1)) last → UnmetBelow (askedBy rows (rank + 1)) (blockingIn rows count rank) last
+  taken-over rank last some inside unmet s l = omega (arith, unmet s l, blocks-more rank some inside, asked-more rows rank s, once rank s)
 
 -- one member more between
 pub between-none : (rows : List ℕ) (rank : ℕ) → between rows rank rank ≡ 0

@@ -3,7 +3,7 @@ use mathlib.Core.Path.{_≡_, refl, sym, ap, _∙_, subst}
 use mathlib.Core.Bool.{Bool, true, false}
 use mathlib.Core.List.{List}
 use mathlib.Core.Logic.{_≢_}
-use Prim.Native.Nat.{ℕ, _+_, _-_, _≤_, _<_}
+use Prim.Native.Nat.{ℕ, _+_, _-_, _≤_, _<_, min}
 use native.Mathlib.Decide.{decLt, ℕ-discrete}
 use native.Mathlib.Omega.{arith}
 use lib.ListN.{length, set, length-set}
@@ -14,9 +14,11 @@ use Rattle.model.specs.Limits.{mostTasks}
 use Rattle.demand.specs.declared.Verdict.{Verdict}
 use Rattle.demand.specs.declared.Verdict.the-variants.{Passes}
 use Rattle.demand.specs.Test.{doesPass, responseOf}
-use Rattle.asked.specs.Rows.{blockingIn}
+use Rattle.asked.specs.Rows.{RowsFit, blockingIn, whole}
+use Rattle.asked.specs.Lines.{lineIn}
 use Rattle.verdict.specs.declared.Tested.{Tested}
 use Rattle.verdict.specs.Tested.{TestedAs}
+use Rattle.verdict.proofs.Full.{overfull-open, unmet-fails}
 use Rattle.roster.specs.Keys.{numberAt}
 use Rattle.trial.specs.Known.{ofRank, Bounds, passesAt, verdictAt, OnlyRanks, TestedFrom, Shielded, OthersTested, Before, After, TriedAs}
 use Rattle.trial.proofs.Testing.{passes-is, put-own, put-others, rank-kept, bounds-put}
@@ -31,6 +33,16 @@ every-part passes n from k le fails = go (every passes n) refl
 
 pub refused-as : (rows keys : List ℕ) (count : ℕ) (lasts worsts : List ℕ) → every (passesAt rows count) count ≡ false → TriedAs rows keys count lasts worsts false lasts worsts
 refused-as rows keys count lasts worsts fails = record { all-pass = sym fails; taken = λ p. clash p; refused = λ p. (refl, refl) }
+
+-- where all ask for more than there is, the lowest fails
+pub overfull-fails : (rows : List ℕ) (count : ℕ) → RowsFit rows count → 0 < count → whole < lineIn rows count 0 1_000_000 .slope + min 0 1 → every (passesAt rows count) count ≡ false
+overfull-fails rows count fit some over =
+    let lowest = count - 1 in
+    let same : lowest + 1 ≡ count = omega (arith, some) in
+    let fit-same = subst (RowsFit rows) (sym same) fit in
+    let blocked = blockingIn rows count lowest in
+    let more : whole < lineIn rows (lowest + 1) 0 1_000_000 .slope + min blocked 1 = omega (arith, over, ap (λ (n : ℕ). lineIn rows n 0 1_000_000 .slope) same) in
+    every-stop (passesAt rows count) count lowest (omega (arith, some)) (unmet-fails rows lowest fit-same blocked (overfull-open rows lowest fit-same blocked more) .passes)
 
 -- the others tested, higher and lower
 module _ (rows keys : List ℕ) (count newcomer : ℕ) (lasts worsts : List ℕ) (inside : newcomer < count) (first : ℕ) (upto : first ≤ newcomer) (shields : (h : ℕ) → h < first → Shielded rows count newcomer h)

@@ -141,7 +141,7 @@ fn test_others(
 }
 
 // A newcomer among the members: it is tested first, then the others that it touches.
-pub fn tries(
+fn test_touched(
     rows: &[u32; ROWS],
     keys: &[u32; Order::MOST_TASKS],
     count: usize,
@@ -167,4 +167,22 @@ pub fn tries(
     *lasts = new_lasts;
     *worsts = new_worsts;
     true
+}
+
+// A newcomer among the members: where all ask for more than there is, the lowest fails, and none is tested.
+pub fn tries(
+    rows: &[u32; ROWS],
+    keys: &[u32; Order::MOST_TASKS],
+    count: usize,
+    newcomer: usize,
+    lasts: &mut [u32; Order::MOST_TASKS],
+    worsts: &mut [u32; Order::MOST_TASKS],
+) -> bool
+    requires { ⌜ (newcomer < count) × RowsFit (now rows) count × Before (now rows) (now keys) count newcomer (now lasts) (now worsts) ⌝ }
+    ensures { λ r. ⌜ TriedAs (now (rows .entry)) (now (keys .entry)) count (now (lasts .entry)) (now (worsts .entry)) r (now (lasts .exit)) (now (worsts .exit)) ⌝ }
+{
+    if verdict::overfull(rows, count, 0) {
+        return false;
+    }
+    test_touched(rows, keys, count, newcomer, lasts, worsts)
 }

@@ -127,7 +127,7 @@ fn next_column(column: &mut [u32]) -> usize
 fn read_case() {
     let mut order = [0u8; MOST_BYTES];
     let size = next_bytes(&mut order);
-    let mut numbers = [WORD; 130];
+    let mut numbers = [WORD; jefkantu::ORDER_NUMBERS];
     let word = jefkantu::jefkantu_read_order(&order[..size], &mut numbers);
     show_answer(b"read", word);
     show_words(&numbers);
@@ -179,8 +179,8 @@ fn check_case() {
     let mut order = [0u8; MOST_BYTES];
     let size = next_bytes(&mut order);
     let mut build = [0u8; MOST_BYTES];
-    let length = next_bytes(&mut build);
-    let word = jefkantu::jefkantu_check(&order[..size], &build[..length]);
+    let bytes = next_bytes(&mut build);
+    let word = jefkantu::jefkantu_check(&order[..size], &build[..bytes]);
     show_answer(b"check", word);
     end_line();
 }
@@ -195,14 +195,14 @@ fn run_case() {
     let mut order = [0u8; MOST_BYTES];
     let size = next_bytes(&mut order);
     let mut build = [0u8; MOST_BYTES];
-    let length = next_bytes(&mut build);
+    let bytes = next_bytes(&mut build);
     let mut script = [0u8; MOST_SCRIPT];
     let records = next_bytes(&mut script);
     let mut out = [WORD; MOST_TICKS];
     let places = next_places(&out);
     run_into(
         &order[..size],
-        &build[..length],
+        &build[..bytes],
         &script[..records],
         &mut out[..places],
     );

@@ -23,7 +23,7 @@ pub struct Tested {
 }
 
 // More is asked in every tick than the tick itself: no window closes.
-fn overfull(rows: &[u32; ROWS], count: usize, blocking: u32) -> bool
+pub fn overfull(rows: &[u32; ROWS], count: usize, blocking: u32) -> bool
     requires { ⌜ RowsFit (now rows) count ⌝ }
     ensures { λ r. ⌜ r ≡ ltb whole (lineIn (now (rows .entry)) count 0 1_000_000 .slope + min blocking 1) ⌝ }
 {

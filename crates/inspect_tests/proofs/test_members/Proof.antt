@@ -4,24 +4,24 @@ use mathlib.Core.Path.{sym, subst}
 use native.Mathlib.Nat.{le-antisymm}
 use native.Mathlib.Omega.{arith}
 use lib.ListN.{set}
-use Rattle.inspect_tests.specs.Results.{TestedRanks}
+use Rattle.inspect_tests.specs.Results.{Lowered, TestedRanks}
 use Rattle.inspect_tests.proofs.Tested.{ranks-none, ranks-more}
 use Rattle.inspect_tests.proofs.test_members.Statement.{statement}
 use Rattle.inspect_tests.proofs.test_members.Tie as tie
 
 abbrev Inv-loop : tie.InvT-loop
-Inv-loop rows keys count lasts₀ worsts₀ rank₀ lasts worsts rank = (rank ≤ count) × TestedRanks rows keys count rank lasts₀ worsts₀ lasts worsts
+Inv-loop rows keys count lowest lasts₀ worsts₀ failing₀ rank₀ lasts worsts failing rank = (rank ≤ count) × TestedRanks rows keys count rank lowest lasts₀ worsts₀ failing lasts worsts
 
 abbrev μ-loop : tie.MeasureT-loop
-μ-loop rows keys count lasts₀ worsts₀ rank₀ lasts worsts rank = count - rank
+μ-loop rows keys count lowest lasts₀ worsts₀ failing₀ rank₀ lasts worsts failing rank = count - rank
 
 loop-holds : tie.Need-loop-holds Inv-loop μ-loop
 loop-holds c =
     let a = c .args in
-    (omega arith, ranks-none (a .rows .now) (a .keys .now) (a .count) (c .pre .1) (a .lasts .now) (a .worsts .now) (c .pre .2) (c .pre .3))
+    (omega arith, ranks-none (a .rows .now) (a .keys .now) (a .count) (c .pre .1) (a .lowest) (a .lasts .now) (a .worsts .now) (c .pre .2) (c .pre .3) (c .pre .4))
 
-test-rank-requires : tie.Need-test-rank-requires Inv-loop μ-loop
-test-rank-requires c κs =
+test-below-requires : tie.Need-test-below-requires Inv-loop μ-loop
+test-below-requires c κs =
     let w = c .before .before in
     (c .before .loop-test .taken, w .before .pre .0, w .loop .inv .1 .bounds)
 
@@ -46,6 +46,9 @@ mul-worsts c = search needs
 element-write-worsts : tie.Need-element-write-worsts Inv-loop μ-loop
 element-write-worsts c = omega (arith, c .number-in .ensures)
 
+lowered-requires : tie.Need-lowered-requires Inv-loop μ-loop
+lowered-requires c κs = search needs
+
 add-rank : tie.Need-add-rank Inv-loop μ-loop
 add-rank c = search needs
 
@@ -54,21 +57,23 @@ loop-less c = search needs
 
 loop-again : tie.Need-loop-again Inv-loop μ-loop
 loop-again c =
-    let tested = c .before .before .test-rank in
-    let w = c .before .before .before .before .before in
+    let tested = c .before .before .before .test-below in
+    let number = c .before .number-in in
+    let w = c .before .before .before .before .before .before in
     let s = w .before in
     let a = s .args in
-    let here = c .before .before .before .before .loop-test .taken in (
+    let here = c .before .before .before .before .before .loop-test .taken in
+    let down = subst (λ (n : ℕ). Lowered (w .loop .failing) n (tested .result .worst) (c .lowered .result)) (number .ensures) (c .lowered .ensures) in (
       omega (arith, here),
-      subst (λ (n : ℕ). TestedRanks (a .rows .now) (a .keys .now) (a .count) (w .loop .rank + 1) (a .lasts .now) (a .worsts .now) (set (w .loop .lasts) n (tested .result .last)) (set (w .loop .worsts) n (tested .result .worst))) (sym (c .number-in .ensures))
-          (ranks-more (a .rows .now) (a .keys .now) (a .count) (s .pre .1) (a .lasts .now) (a .worsts .now) (w .loop .rank) (w .loop .lasts) (w .loop .worsts) here (w .loop .inv .1) (tested .result) (tested .ensures)),
+      subst (λ (n : ℕ). TestedRanks (a .rows .now) (a .keys .now) (a .count) (w .loop .rank + 1) (a .lowest) (a .lasts .now) (a .worsts .now) (c .lowered .result) (set (w .loop .lasts) n (tested .result .last)) (set (w .loop .worsts) n (tested .result .worst))) (sym (number .ensures))
+          (ranks-more (a .rows .now) (a .keys .now) (a .count) (s .pre .1) (a .lowest) (a .lasts .now) (a .worsts .now) (w .loop .rank) (w .loop .failing) (w .loop .lasts) (w .loop .worsts) here (w .loop .inv .1) (tested .result) (tested .ensures) (c .lowered .result) down),
     )
 
 returns : tie.Need-returns Inv-loop μ-loop
 returns c =
     let w = c .before in
     let a = w .before .args in
-    subst (λ (n : ℕ). TestedRanks (a .rows .now) (a .keys .now) (a .count) n (a .lasts .now) (a .worsts .now) (w .loop .lasts) (w .loop .worsts)) (le-antisymm (w .loop .inv .0) (c .loop-test .left)) (w .loop .inv .1)
+    subst (λ (n : ℕ). TestedRanks (a .rows .now) (a .keys .now) (a .count) n (a .lowest) (a .lasts .now) (a .worsts .now) (w .loop .failing) (w .loop .lasts) (w .loop .worsts)) (le-antisymm (w .loop .inv .0) (c .loop-test .left)) (w .loop .inv .1)
 
 pub test-members-spec : {M : Type 1} → statement M
 test-members-spec =
@@ -77,7 +82,7 @@ test-members-spec =
     Inv-loop
     μ-loop
     loop-holds
-    test-rank-requires
+    test-below-requires
     mul-number-in
     element-copy-out-number-in
     number-in-requires
@@ -85,6 +90,7 @@ test-members-spec =
     element-write-lasts
     mul-worsts
     element-write-worsts
+    lowered-requires
     add-rank
     loop-less
     loop-again

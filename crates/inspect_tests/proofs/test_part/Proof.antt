@@ -50,7 +50,7 @@ test-members-requires c κs =
     let m = f .before .before .before in
     let s = m .before .before .before .before in
     let a = s .args in
-    part-needs (a .table .now) (a .keys .now) (a .tasks) (a .first) (a .lasts .now) (a .worsts .now) (s .pre .1) (s .pre .0) (s .pre .2) _ _ (m .members-of .result) (size-is m) (copied m) (f .fill-rows .ensures)
+    part-needs (a .table .now) (a .keys .now) (a .tasks) (a .first) (a .lowest) (a .lasts .now) (a .worsts .now) (s .pre .1) (s .pre .0) (s .pre .2) _ _ (m .members-of .result) (size-is m) (copied m) (f .fill-rows .ensures)
 
 returns : tie.Need-returns
 returns c =
@@ -58,7 +58,7 @@ returns c =
     let m = f .before .before .before in
     let s = m .before .before .before .before in
     let a = s .args in
-    part-gives (a .table .now) (a .keys .now) (a .tasks) (a .first) (a .lasts .now) (a .worsts .now) (s .pre .1) (s .pre .0) (s .pre .2) _ _ (m .members-of .result) (size-is m) _ _ (copied m) (f .fill-rows .ensures) (c .test-members .ensures)
+    part-gives (a .table .now) (a .keys .now) (a .tasks) (a .first) (a .lowest) (a .lasts .now) (a .worsts .now) (s .pre .1) (s .pre .0) (s .pre .2) _ _ (m .members-of .result) (size-is m) _ _ _ (copied m) (f .fill-rows .ensures) (c .test-members .ensures)
 
 pub test-part-spec : {M : Type 1} → statement M
 test-part-spec =

@@ -1,7 +1,6 @@
 use borrow.Author.Needs.{needs}
 use native.Mathlib.Omega.{arith}
-use Rattle.jefkantu.proofs.Word.{cause-number-small}
-use Rattle.model.specs.Answer.{numberOf, placeOf, countOf}
+use Rattle.model.specs.Answer.{answerNumber, answerPlace, answerCount}
 use Rattle.jefkantu.specs.Word.{answerWord}
 use Rattle.jefkantu.proofs.answer_word.Statement.{statement}
 use Rattle.jefkantu.proofs.answer_word.Tie as tie
@@ -24,25 +23,31 @@ add-result c = search needs
 enum-known-answer-2 : tie.Need-enum-known-answer-2
 enum-known-answer-2 c = search needs
 
-cause-number-requires : tie.Need-cause-number-requires
-cause-number-requires c κs = search needs
+number-requires : tie.Need-number-requires
+number-requires c κs = search needs
 
-cause-place-requires : tie.Need-cause-place-requires
-cause-place-requires c κs = search needs
+cast-result-2 : tie.Need-cast-result-2
+cast-result-2 c = search needs
+
+place-requires : tie.Need-place-requires
+place-requires c κs = search needs
+
+cast-result-3 : tie.Need-cast-result-3
+cast-result-3 c = search needs
 
 mul-result-3 : tie.Need-mul-result-3
 mul-result-3 c = search needs
 
 add-result-2 : tie.Need-add-result-2
-add-result-2 c = omega (arith, cause-number-small (c .before .before .before .answer2 .given .0 .0))
+add-result-2 c = search needs
 
 returns : tie.Need-returns
-unfolding answerWord numberOf placeOf countOf
+unfolding answerWord answerNumber answerPlace answerCount
 returns c = rw (c .before .answer .given .1) (omega arith)
 
 returns-2 : tie.Need-returns-2
-unfolding answerWord numberOf placeOf countOf
-returns-2 c = rw (c .before .before .before .answer2 .given .1) (omega (arith, c .before .cause-number .ensures, c .cause-place .ensures .0))
+unfolding answerWord answerNumber answerPlace answerCount
+returns-2 c = rw (c .before .before .before .answer2 .given .1) (omega (arith, c .before .number .ensures, c .place .ensures))
 
 pub answer-word-spec : {M : Type 1} → statement M
 answer-word-spec =
@@ -54,8 +59,10 @@ answer-word-spec =
     mul-result-2
     add-result
     enum-known-answer-2
-    cause-number-requires
-    cause-place-requires
+    number-requires
+    cast-result-2
+    place-requires
+    cast-result-3
     mul-result-3
     add-result-2
     returns

@@ -9,13 +9,13 @@ use Rattle.model.specs.declared.order.Order.{Order}
 use Rattle.model.specs.declared.answer.Answer.{Answer}
 use Rattle.model.specs.declared.answer.Answer.the-variants.{Done, Refused}
 use Rattle.model.specs.Limits.{taskOf}
-use Rattle.jefkantu.specs.Surface.{taskNumbers, orderNumbers, numbersAfter}
+use Rattle.jefkantu.specs.Surface.{fourNumbers, orderNumbers, numbersAfter}
 use Rattle.vectors.proofs.read_case.Statement.{statement}
 use Rattle.vectors.proofs.read_case.Tie as tie
 
 numbers-length : (order : Order) → length (orderNumbers order) ≡ 130
 unfolding orderNumbers
-numbers-length order = omega (arith, length-joined (λ i. taskNumbers (taskOf (order .table) i)) 4 32 (λ j. refl))
+numbers-length order = omega (arith, length-joined (λ i. fourNumbers (taskOf order i)) 4 32 (λ j. refl))
 
 -- the numbers are 130 after a reading too
 holds-all : (answer : Answer) (order : Order) (numbers after : List ℕ) → after ≡ numbersAfter answer order numbers → 130 ≡ length numbers → 130 ≡ length after

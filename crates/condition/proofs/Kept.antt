@@ -20,7 +20,7 @@ use Rattle.machine.proofs.Isolation.{home-member}
 use Rattle.busy.proofs.Passing.{passing-is-in-time}
 use Rattle.inspect.specs.Claims.{AcceptedBuild}
 use Rattle.inspect.proofs.Claims.{done-accepts}
-use Rattle.condition.specs.Condition3.{OnEnough, Kept, Condition3}
+use Rattle.condition.specs.Kept.{OnEnough, Kept, AcceptedIsKept}
 
 module _ (o : Order) (b : Build) (accepted : AcceptedBuild o b) where
   -- rule 24, of two partitions in either order
@@ -63,5 +63,5 @@ module _ (o : Order) (b : Build) (accepted : AcceptedBuild o b) where
             record { finish = f .finish; finishes = f .finishes; by-deadline = omega (arith, f .in-deadline); within-response = omega (arith, f .in-response) });
       }
 
-pub condition-3 : Condition3
-condition-3 order build done releases legal = kept (orderAt order) (buildAt build) (done-accepts order build done) releases legal
+pub accepted-is-kept : AcceptedIsKept
+accepted-is-kept order build done releases legal = kept (orderAt order) (buildAt build) (done-accepts order build done) releases legal

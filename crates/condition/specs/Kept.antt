@@ -42,6 +42,6 @@ module _ (o : Order) (b : Build) (releases : Pattern) where
     pub in-time : (task release : ℕ) → 0 < releases release task → FinishesSoon task release
 
 -- every order and build that the check accepts, and every legal release pattern, endless ones too
-abbrev pub Condition3 : Type 0
-Condition3 = (order build : List ℕ) → checkAnswer order build ≡ Done 0
+abbrev pub AcceptedIsKept : Type 0
+AcceptedIsKept = (order build : List ℕ) → checkAnswer order build ≡ Done 0
     → (releases : Pattern) → LegalPattern (orderAt order) releases → Kept (orderAt order) (buildAt build) releases

@@ -1,0 +1,81 @@
+-- Every promise is kept, by the theorem that its claim names.
+use Rattle.order_facts.proofs.Facts.{one-reading, one-writing, refused-reads-zero, accepted-exactly, reading-gives-back, bytes-back, writes-only-counted-front, reading-unique, writing-unique}
+use Rattle.build_facts.proofs.Back.{length-right, reads-back}
+use Rattle.build_facts.proofs.Forth.{writes-back}
+use Rattle.demand.proofs.Meaning.{every-verdict-means, no-start-never}
+use Rattle.demand.proofs.Membership.{every-alone-passes}
+use Rattle.turns.proofs.Turns.{turn-before-means, next-means}
+use Rattle.fitting.proofs.Accepts.{accepts-means}
+use Rattle.fitting.proofs.Claims.{first-fit-places, first-fit-refuses, first-fit-ends}
+use Rattle.fit.proofs.Built.{fitted-is-built}
+use Rattle.plan.proofs.Claims.{one-plan-answer, plans-only-counted-front, refuses-where-fit-runs-out, sound-is-planned, planning-unique}
+use Rattle.inspect.proofs.Claims.{done-exactly, one-check-answer, checking-unique}
+use Rattle.agree.proofs.Agree.{planned-is-accepted}
+use Rattle.script.proofs.Accepted.{rules-of-scripts}
+use Rattle.script.proofs.Tells.{one-script-answer}
+use Rattle.script.proofs.Bytes.{script-bytes}
+use Rattle.run.proofs.Claims.{run-done-exactly, one-run-answer, runs-only-front, writes-finishes, runs-isolated, empty-script, running-unique}
+use Rattle.finish.proofs.Finish.{every-job-finishes, finish-tick-is-one}
+use Rattle.condition.proofs.Kept.{accepted-is-kept}
+use Rattle.condition.proofs.Runs.{runs-in-time}
+use Rattle.points.proofs.Points as table
+use Rattle.promises.specs.Promises.{Condition1, Condition2, Condition3, Promises}
+
+pub condition-1 : Condition1
+condition-1 =
+    record {
+      read = one-reading;
+      written = one-writing;
+      planned = one-plan-answer;
+      checked = one-check-answer;
+      script = one-script-answer;
+      run = one-run-answer;
+      writer-keeps = writes-only-counted-front;
+      planner-keeps = plans-only-counted-front;
+      runner-keeps = runs-only-front;
+      reader-clears = refused-reads-zero;
+      one-reading = reading-unique;
+      one-writing = writing-unique;
+      one-plan = planning-unique;
+      one-check = checking-unique;
+      one-run = running-unique;
+    }
+
+pub condition-2 : Condition2
+condition-2 =
+    record {
+      order-layout = accepted-exactly;
+      order-back = bytes-back;
+      written-back = reading-gives-back;
+      build-length = length-right;
+      build-back = reads-back;
+      build-bytes = writes-back;
+      script-bytes = script-bytes;
+      turns = turn-before-means;
+      next = next-means;
+      takes = accepts-means;
+      places = first-fit-places;
+      refuses = first-fit-refuses;
+      ends = first-fit-ends;
+      build = fitted-is-built;
+      test = every-verdict-means;
+      starts = no-start-never;
+      alone = every-alone-passes;
+      sound = sound-is-planned;
+      runs-out = refuses-where-fit-runs-out;
+      check = done-exactly;
+      agrees = planned-is-accepted;
+      accepted-run = run-done-exactly;
+      accepted-script = rules-of-scripts;
+      finishes = writes-finishes;
+      every-job = every-job-finishes;
+      one-tick = finish-tick-is-one;
+      isolated = runs-isolated;
+      empty = empty-script;
+    }
+
+pub condition-3 : Condition3
+condition-3 = record { any-build = accepted-is-kept; any-run = runs-in-time }
+
+pub promises : Promises
+promises = record { condition-1 = condition-1; condition-2 = condition-2; condition-3 = condition-3; points = table.points }

@@ -1,0 +1,89 @@
+-- What the customer was promised: the three conditions of acceptance in the customer's words, and the points on the line.
+-- Each field is a claim that stands, with its definitions, where its `use` line says; proofs/Promises.antt cites its proof.
+use Rattle.order_facts.specs.Claims.{OneReading, OneWriting, RefusedReadsZero, AcceptedExactly, ReadingGivesBack, BytesReadBack, WritesOnlyCountedFront, ReadingUnique, WritingUnique}
+use Rattle.build_facts.specs.Facts.{LengthRight, ReadsBack, WritesBack}
+use Rattle.demand.specs.Meaning.{EveryVerdictMeans, NoStartNever, AlonePasses}
+use Rattle.turns.specs.Claims.{TurnBeforeMeans, NextMeans}
+use Rattle.fitting.specs.Claims.{AcceptsMeans, FirstFitPlaces, FirstFitRefuses, FirstFitEnds}
+use Rattle.fit.specs.Claims.{FittedIsBuilt}
+use Rattle.plan.specs.Claims.{OnePlanAnswer, PlansOnlyCountedFront, RefusesWhereFitRunsOut, SoundIsPlanned, PlanningUnique}
+use Rattle.inspect.specs.Claims.{DoneExactly, OneCheckAnswer, CheckingUnique}
+use Rattle.agree.specs.Claims.{PlannedIsAccepted}
+use Rattle.script.specs.Claims.{RulesOfScripts, OneScriptAnswer, ScriptBytes}
+use Rattle.run.specs.Claims.{RunDoneExactly, OneRunAnswer, RunsOnlyFront, WritesFinishes, RunsIsolated, EmptyScript, RunningUnique}
+use Rattle.finish.specs.Claims.{EveryJobFinishes, FinishTickIsOne}
+use Rattle.condition.specs.Kept.{AcceptedIsKept}
+use Rattle.condition.specs.Runs.{RunsInTime}
+use Rattle.points.specs.Points as table
+
+-- "Every order, build and script, however damaged, gets an answer": each function of the library has a contract and no demand on its input,
+-- and a proved function ends. The contracts say which answer:
+pub record Condition1 : Type 0 where
+  -- "It refuses what the definition lists, with that number and place, for that cause only": the first rule that is broken, and no other
+  pub read : OneReading
+  pub written : OneWriting
+  pub planned : OnePlanAnswer
+  pub checked : OneCheckAnswer
+  pub script : OneScriptAnswer
+  pub run : OneRunAnswer
+  -- "and a refusal changes no byte of the caller's": only the counted front changes, and a refusal counts none
+  pub writer-keeps : WritesOnlyCountedFront
+  pub planner-keeps : PlansOnlyCountedFront
+  pub runner-keeps : RunsOnlyFront
+  pub reader-clears : RefusedReadsZero
+  -- one answer and one content of the memory for every input
+  pub one-reading : ReadingUnique
+  pub one-writing : WritingUnique
+  pub one-plan : PlanningUnique
+  pub one-check : CheckingUnique
+  pub one-run : RunningUnique
+
+pub record Condition2 : Type 0 where
+  -- "Orders are written and read by the bit layout, and reading gives back what was written.", builds and scripts too
+  pub order-layout : AcceptedExactly
+  pub order-back : BytesReadBack
+  pub written-back : ReadingGivesBack
+  pub build-length : LengthRight
+  pub build-back : ReadsBack
+  pub build-bytes : WritesBack
+  pub script-bytes : ScriptBytes
+  -- "An order's build is the one that first fit by decreasing volume gives": whose turn it is, which partition takes it, when it is refused
+  pub turns : TurnBeforeMeans
+  pub next : NextMeans
+  pub takes : AcceptsMeans
+  pub places : FirstFitPlaces
+  pub refuses : FirstFitRefuses
+  pub ends : FirstFitEnds
+  pub build : FittedIsBuilt
+  -- "with the definition's response test"
+  pub test : EveryVerdictMeans
+  pub starts : NoStartNever
+  pub alone : AlonePasses
+  -- "a sound order with room for its build is refused only where that method runs out of accelerators"
+  pub sound : SoundIsPlanned
+  pub runs-out : RefusesWhereFitRunsOut
+  -- "The check says yes exactly when every listed rule holds.", and so to whatever the planner writes
+  pub check : DoneExactly
+  pub agrees : PlannedIsAccepted
+  -- "An accepted run writes for each record the finish tick that the step machine gives it."
+  pub accepted-run : RunDoneExactly
+  pub accepted-script : RulesOfScripts
+  pub finishes : WritesFinishes
+  pub every-job : EveryJobFinishes
+  pub one-tick : FinishTickIsOne
+  pub isolated : RunsIsolated
+  pub empty : EmptyScript
+
+pub record Condition3 : Type 0 where
+  -- "For any build the check accepts, whoever drew it, and any legal arrivals with jobs from one tick to their run time: no accelerator serves
+  -- two jobs at once, each job runs on enough accelerators of its own partition, and finishes by its deadline and within the recorded response."
+  pub any-build : AcceptedIsKept
+  -- the same of the finish ticks that a run writes
+  pub any-run : RunsInTime
+
+pub record Promises : Type 0 where
+  pub condition-1 : Condition1
+  pub condition-2 : Condition2
+  pub condition-3 : Condition3
+  -- "Points on the line", P1 to P12
+  pub points : table.Points

@@ -1,0 +1,1 @@
+// What the customer was promised, in one file; no code.
