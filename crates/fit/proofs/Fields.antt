@@ -33,8 +33,7 @@ built-fits o b limits is =
       each-member = λ i l.
           (let mine : i < o .tasks = omega (arith, is .tasks) in
           let task = limits .each i mine in
-          let passing = every-verdict-means o (membersOf b (homeOf b i)) i limits mine .passes (memberOf b i .response) .0 (is .responses i mine) in
-          (
+          let passing = every-verdict-means o (membersOf b (homeOf b i)) i limits mine .passes (memberOf b i .response) .0 (is .responses i mine) in (
             omega (arith, is .placed .1 .0 i mine, is .placed .1 .1 .in-one i mine, is .placed .1 .1 .few, limits .tasks),
             (
               omega (arith, is .ranks i mine, rank-less o (membersOf b (homeOf b i)) i mine, limits .tasks),

@@ -21,7 +21,7 @@ use Rattle.model.specs.Limits.{mostTasks, zeroMember}
 use Rattle.demand.specs.Priority.{Members, rank}
 use Rattle.demand.specs.Test.{verdict, responseOf}
 use Rattle.demand.proofs.Membership.{rank-same}
-use Rattle.roster.specs.Keys.{homeIn, numberIn, keyAt, numberAt, livesIn}
+use Rattle.roster.specs.Keys.{homeIn, keyNumber, keyAt, numberAt, livesIn}
 use Rattle.roster.specs.Lined.{Lined, PartFrom, partSize}
 use Rattle.roster.proofs.Runs.{run-stops, run-most}
 use Rattle.roster.proofs.Ranks.{place-in, rank-is}
@@ -130,9 +130,9 @@ module _ (keys worsts : List ℕ) (tasks : ℕ) where
       rank-there =
           let lined = lined-part o (so .limits) (λ j. not (isUnplaced homes j)) (homeAt homes) keys tasks line first h part own copied in
           let ranked = ranked-in o (so .limits) there (homeAt homes) own (partSize keys tasks first h) h lined
-                (lives-here o (so .limits) (λ j. not (isUnplaced homes j)) (homeAt homes) keys tasks line first h part own copied) in
+          (lives-here o (so .limits) (λ j. not (isUnplaced homes j)) (homeAt homes) keys tasks line first h part own copied) in
           let back : first + (place - first) ≡ place = omega arith in
-          let same : numberAt own (place - first) ≡ i = ap numberIn (copied (place - first) long ∙ ap (keyAt keys) back) in
+          let same : numberAt own (place - first) ≡ i = ap keyNumber (copied (place - first) long ∙ ap (keyAt keys) back) in
           ap (λ (x : ℕ). rank o (livingIn homes x) i) home-is
           ∙ rank-same o (livingIn homes h) there i alike
           ∙ ap (rank o there) (sym same)

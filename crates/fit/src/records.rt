@@ -26,7 +26,11 @@ pub struct Fitted {
 fn first_of(key: u32, home: u32, place: usize, first: usize) -> usize
     ensures { λ r. ⌜ r ≡ pick (eqb (homeIn key) home) first place ⌝ }
 {
-    if roster::home_in(key) == home { first } else { place }
+    if roster::home_in(key) == home {
+        first
+    } else {
+        place
+    }
 }
 
 // Each task's record, zero past them.

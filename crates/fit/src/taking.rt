@@ -65,7 +65,11 @@ fn take_turn(
 }
 
 // A turn for each task, or until one is refused; the line of their keys and their worst responses.
-pub fn take_turns(order: Order, keys: &mut [u32; Order::MOST_TASKS], worsts: &mut [u32; Order::MOST_TASKS]) -> Outcome
+pub fn take_turns(
+    order: Order,
+    keys: &mut [u32; Order::MOST_TASKS],
+    worsts: &mut [u32; Order::MOST_TASKS],
+) -> Outcome
     requires { ⌜ WithinLimits order × (length (now keys) ≡ mostTasks) × (length (now worsts) ≡ mostTasks) ⌝ }
     ensures { λ r. ⌜ AllTaken order r (now (keys .exit)) (now (worsts .exit)) ⌝ }
 {

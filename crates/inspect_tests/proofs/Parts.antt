@@ -16,7 +16,7 @@ use Rattle.demand.specs.Releases.{workBy}
 use Rattle.demand.specs.Test.{blocking, higherWork, verdict, responseOf}
 use Rattle.asked.specs.Rows.{RowsFit, askedBy, blockingIn}
 use Rattle.asked.specs.Met.{UnmetBelow}
-use Rattle.roster.specs.Keys.{homeIn, numberIn, keyAt, numberAt, livesIn}
+use Rattle.roster.specs.Keys.{homeIn, keyNumber, keyAt, numberAt, livesIn}
 use Rattle.roster.specs.Lined.{PartFrom, partSize}
 use Rattle.roster.specs.Ranked.{Ranked, RowsOf}
 use Rattle.roster.specs.Rows.{RowsInLine}
@@ -56,7 +56,7 @@ module _ (table keys : List ℕ) (tasks : ℕ) (o : Order) (b : Build) (is : Lin
     own-home r l = eqb-true _ _ (ranked .members r l)
 
     own-number : (r : ℕ) → r < size → numberAt own r ≡ numberAt keys (first + r)
-    own-number r l = ap numberIn (copied r l)
+    own-number r l = ap keyNumber (copied r l)
 
     pub own-place : (i : ℕ) → i < tasks → homeOf b i ≡ home → (r : ℕ) × (r < size) × (numberAt own r ≡ i)
     unfolding membersOf

@@ -25,8 +25,8 @@ use Rattle.demand.proofs.Membership.{verdict-same}
 use Rattle.demand.proofs.Newcomer.{blocking-more, newcomer-below}
 use Rattle.asked.specs.Rows.{wordAt, costAt, askedBy, blockingIn, RowsFit}
 use Rattle.asked.specs.Met.{UnmetBelow}
-use Rattle.trial.specs.Known.{ofRank, Bounds, verdictAt, passesAt, Shielded, Before, After, TriedAs}
-use Rattle.roster.specs.Keys.{keyOf, numberIn, keyAt, numberAt, spotFor, withKey}
+use Rattle.trial.specs.Known.{ofRank, Bounds, verdictAt, passesAt, Shielded, KnownBefore, KnownAfter, TriedAs}
+use Rattle.roster.specs.Keys.{keyOf, keyNumber, keyAt, numberAt, spotFor, withKey}
 use Rattle.roster.specs.Rows.{RowOf, RowsByNumber, RowsInLine}
 use Rattle.roster.specs.Ranked.{Ranked, RowsOf}
 use Rattle.roster.specs.Lined.{Lined, PartFrom, partSize}
@@ -184,7 +184,7 @@ module _ (o : Order) (limits : WithinLimits o) (homes : List ℕ) (places : leng
     newcomer-is =
         let own-key = keyOf k (deadlineOf o task) task in
         let at : keyAt own′ newcomer ≡ own-key = put newcomer newcomer-in ∙ inserted-here newcomer own-key (keyAt own) in
-        ap numberIn at ∙ number-of-key k (deadlineOf o task) task (omega (arith, limits .tasks .1))
+        ap keyNumber at ∙ number-of-key k (deadlineOf o task) task (omega (arith, limits .tasks .1))
 
     pub verdict-there : (r : ℕ) → r < count → verdictAt rows count r ≡ verdict o (livingIn homes′ k) (numberAt own′ r)
     verdict-there r l = verdict-is o limits (livingIn homes′ k) (numberAt own′) count rows ranked few-rows rows-are r l
@@ -241,7 +241,7 @@ module _ (o : Order) (limits : WithinLimits o) (homes : List ℕ) (places : leng
           ∙ ap (λ (x : ℕ). verdict o (livingIn homes x) j) (sym (at-home h l away))
           ∙ known .passing j (line-now .within h l) (placed-there j (lived h l away))
 
-      pub before : Before rows own′ count newcomer lasts worsts
+      pub before : KnownBefore rows own′ count newcomer lasts worsts
       before =
           record {
             apart = one-place o limits (livingIn homes′ k) (homeAt homes′) own′ count line-now;
@@ -259,9 +259,9 @@ module _ (o : Order) (limits : WithinLimits o) (homes : List ℕ) (places : leng
       unfolding accepts
       answer-true e =
           say-members o homes′ k (λ j l m.
-              (let place = place-of o (livingIn homes′ k) (numberAt own′) count ranked j l m in
-              let r = place .0 in
-              ap (λ (x : ℕ). doesPass (verdict o (livingIn homes′ k) x)) (sym (place .2)) ∙ ap doesPass (sym (verdict-there r (place .1))) ∙ every-at (passesAt rows count) count e r (place .1)))
+          (let place = place-of o (livingIn homes′ k) (numberAt own′) count ranked j l m in
+          let r = place .0 in
+          ap (λ (x : ℕ). doesPass (verdict o (livingIn homes′ k) x)) (sym (place .2)) ∙ ap doesPass (sym (verdict-there r (place .1))) ∙ every-at (passesAt rows count) count e r (place .1)))
 
       true-answer : accepts o homes task k ≡ true → every (passesAt rows count) count ≡ true
       unfolding accepts
@@ -273,7 +273,7 @@ module _ (o : Order) (limits : WithinLimits o) (homes : List ℕ) (places : leng
       answer-is passes e = e ∙ same-test (every (passesAt rows count) count) (accepts o homes task k) answer-true true-answer
 
       -- after it, where all pass
-      module _ (lasts′ worsts′ : List ℕ) (after : After rows own′ count lasts worsts lasts′ worsts′) where
+      module _ (lasts′ worsts′ : List ℕ) (after : KnownAfter rows own′ count lasts worsts lasts′ worsts′) where
         -- of another partition's task nothing has changed
         not-there : (j : ℕ) → livingIn homes′ k j ≡ false → (r : ℕ) → 0 ≤ r → r < count → numberAt own′ r ≢ j
         not-there j out r a l e = clash (sym out ∙ ap (livingIn homes′ k) (sym e) ∙ line-now .members r l)

@@ -12,7 +12,7 @@ use Rattle.model.specs.Limits.{mostTasks}
 use Rattle.model.specs.Rules.{WithinLimits}
 use Rattle.demand.specs.Priority.{deadlineOf}
 use Rattle.asked.specs.Rows.{RowsFit}
-use Rattle.trial.specs.Known.{Before, TriedAs}
+use Rattle.trial.specs.Known.{KnownBefore, TriedAs}
 use Rattle.roster.specs.Keys.{keyOf, homeIn, keyAt, livesIn, runFrom, spotFor, withKey}
 use Rattle.roster.specs.Rows.{RowsInLine}
 use Rattle.roster.specs.Lined.{partSize}
@@ -64,7 +64,7 @@ module _ (table keys lasts worsts : List ℕ) (placed first key : ℕ) (so : Try
     newcomer-at : newcomer ≡ spotFor (keyOf k (deadlineOf o i) i) own₁ (partSize keys placed first k)
     newcomer-at = spot ∙ ap (spotFor key own₁) counted ∙ ap (λ (x : ℕ). spotFor x own₁ (partSize keys placed first k)) (so .key-is)
 
-    pub ready : (newcomer < size + 1) × RowsFit rows (size + 1) × Before rows own₂ (size + 1) newcomer lasts worsts
+    pub ready : (newcomer < size + 1) × RowsFit rows (size + 1) × KnownBefore rows own₂ (size + 1) newcomer lasts worsts
     ready =
         let t = so .trying in
         rw (newcomer-at, counted) (

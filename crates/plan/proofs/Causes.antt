@@ -48,8 +48,8 @@ unfolding orderRules layoutRules headerRules spareRules rangeRules EachRefuses
 order-refuses order refusal e =
     refused-by OfAnOrder 0 (orderRules order) refusal
     (each-append OfAnOrder (layoutRules order) (rangeRules (orderAt order))
-      (each-append OfAnOrder (headerRules (length order) (headerOf order)) (spareRules order (headerOf order .tasks))
-        ((OrderShort, refl), ((OrderVersion, refl), ((Processors, refl), ((Tasks, refl), ((OrderLength, refl), ((HeaderSpare, refl), tt))))))
-        (each-joined OfAnOrder _ (headerOf order .tasks) (λ i. ((TaskSpare i, refl), tt))))
-      (each-joined OfAnOrder _ (orderAt order .tasks) (λ i. ((Width i, refl), ((Period i, refl), ((Deadline i, refl), ((RunTime i, refl), tt)))))))
+    (each-append OfAnOrder (headerRules (length order) (headerOf order)) (spareRules order (headerOf order .tasks))
+    ((OrderShort, refl), ((OrderVersion, refl), ((Processors, refl), ((Tasks, refl), ((OrderLength, refl), ((HeaderSpare, refl), tt))))))
+    (each-joined OfAnOrder _ (headerOf order .tasks) (λ i. ((TaskSpare i, refl), tt))))
+    (each-joined OfAnOrder _ (orderAt order .tasks) (λ i. ((Width i, refl), ((Period i, refl), ((Deadline i, refl), ((RunTime i, refl), tt)))))))
     e

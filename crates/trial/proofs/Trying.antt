@@ -20,7 +20,7 @@ use Rattle.verdict.specs.declared.Tested.{Tested}
 use Rattle.verdict.specs.Tested.{TestedAs}
 use Rattle.verdict.proofs.Full.{overfull-open, unmet-fails}
 use Rattle.roster.specs.Keys.{numberAt}
-use Rattle.trial.specs.Known.{ofRank, Bounds, passesAt, verdictAt, OnlyRanks, TestedFrom, Shielded, OthersTested, Before, After, TriedAs}
+use Rattle.trial.specs.Known.{ofRank, Bounds, passesAt, verdictAt, OnlyRanks, TestedFrom, Shielded, OthersTested, KnownBefore, KnownAfter, TriedAs}
 use Rattle.trial.proofs.Testing.{passes-is, put-own, put-others, rank-kept, bounds-put}
 
 -- one that fails among some is enough
@@ -73,7 +73,7 @@ module _ (rows keys : List ℕ) (count newcomer : ℕ) (lasts worsts : List ℕ)
         lower = λ x. subst (λ (b : Bool). TestedFrom rows keys count (newcomer + 1) count lasts₁ worsts₁ b lasts₂ worsts₂) x two;
       }
 
-module _ (rows keys : List ℕ) (count newcomer : ℕ) (lasts worsts : List ℕ) (inside : newcomer < count) (known : Before rows keys count newcomer lasts worsts)
+module _ (rows keys : List ℕ) (count newcomer : ℕ) (lasts worsts : List ℕ) (inside : newcomer < count) (known : KnownBefore rows keys count newcomer lasts worsts)
     (t : Tested) (is : TestedAs rows newcomer (blockingIn rows count newcomer) t) where
   abbrev pub lasts-first : List ℕ
   lasts-first = set lasts (numberAt keys newcomer) (t .last)

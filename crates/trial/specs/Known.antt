@@ -69,14 +69,14 @@ pub record OthersTested (rows keys : List ℕ) (count newcomer : ℕ) (lasts wor
   pub lower : passes ≡ true → TestedFrom rows keys count (newcomer + 1) count lasts-between worsts-between true lasts′ worsts′
 
 -- what is known before a newcomer is tried
-pub record Before (rows keys : List ℕ) (count newcomer : ℕ) (lasts worsts : List ℕ) : Type 0 where
+pub record KnownBefore (rows keys : List ℕ) (count newcomer : ℕ) (lasts worsts : List ℕ) : Type 0 where
   pub apart : Apart keys count
   pub bounds : Bounds rows keys count lasts
   pub places : length worsts ≡ mostTasks
   pub stands : (h : ℕ) → h < newcomer → Shielded rows count newcomer h → verdictAt rows count h ≡ Passes (ofRank keys worsts h)
 
 -- what is known after it was: of all members where all pass, else as before
-pub record After (rows keys : List ℕ) (count : ℕ) (lasts worsts lasts′ worsts′ : List ℕ) : Type 0 where
+pub record KnownAfter (rows keys : List ℕ) (count : ℕ) (lasts worsts lasts′ worsts′ : List ℕ) : Type 0 where
   pub bounds : Bounds rows keys count lasts′
   pub places : length worsts′ ≡ mostTasks
   pub stand : (h : ℕ) → h < count → verdictAt rows count h ≡ Passes (ofRank keys worsts′ h)
@@ -85,5 +85,5 @@ pub record After (rows keys : List ℕ) (count : ℕ) (lasts worsts lasts′ wor
 
 pub record TriedAs (rows keys : List ℕ) (count : ℕ) (lasts worsts : List ℕ) (passes : Bool) (lasts′ worsts′ : List ℕ) : Type 0 where
   pub all-pass : passes ≡ every (passesAt rows count) count
-  pub taken : passes ≡ true → After rows keys count lasts worsts lasts′ worsts′
+  pub taken : passes ≡ true → KnownAfter rows keys count lasts worsts lasts′ worsts′
   pub refused : passes ≡ false → (lasts′ ≡ lasts) × (worsts′ ≡ worsts)

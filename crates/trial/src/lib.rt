@@ -11,7 +11,7 @@ ghost use Rattle.model.specs.Limits.{mostTasks};
 ghost use Rattle.asked.specs.Rows.{RowsFit, costAt, askedBy, blockingIn};
 ghost use Rattle.asked.specs.Met.{UnmetBelow};
 ghost use Rattle.verdict.specs.Tested.{TestedAs};
-ghost use Rattle.trial.specs.Known.{Apart, Bounds, TestedFrom, Shielded, OthersTested, Before, TriedAs};
+ghost use Rattle.trial.specs.Known.{Apart, Bounds, TestedFrom, Shielded, OthersTested, KnownBefore, TriedAs};
 
 // The largest cost from a rank on.
 fn longest(rows: &[u32; ROWS], from: usize, count: usize) -> u32
@@ -149,7 +149,7 @@ fn test_touched(
     lasts: &mut [u32; Order::MOST_TASKS],
     worsts: &mut [u32; Order::MOST_TASKS],
 ) -> bool
-    requires { ⌜ (newcomer < count) × RowsFit (now rows) count × Before (now rows) (now keys) count newcomer (now lasts) (now worsts) ⌝ }
+    requires { ⌜ (newcomer < count) × RowsFit (now rows) count × KnownBefore (now rows) (now keys) count newcomer (now lasts) (now worsts) ⌝ }
     ensures { λ r. ⌜ TriedAs (now (rows .entry)) (now (keys .entry)) count (now (lasts .entry)) (now (worsts .entry)) r (now (lasts .exit)) (now (worsts .exit)) ⌝ }
 {
     let tested = test_rank(rows, keys, count, newcomer, lasts);
@@ -178,7 +178,7 @@ pub fn tries(
     lasts: &mut [u32; Order::MOST_TASKS],
     worsts: &mut [u32; Order::MOST_TASKS],
 ) -> bool
-    requires { ⌜ (newcomer < count) × RowsFit (now rows) count × Before (now rows) (now keys) count newcomer (now lasts) (now worsts) ⌝ }
+    requires { ⌜ (newcomer < count) × RowsFit (now rows) count × KnownBefore (now rows) (now keys) count newcomer (now lasts) (now worsts) ⌝ }
     ensures { λ r. ⌜ TriedAs (now (rows .entry)) (now (keys .entry)) count (now (lasts .entry)) (now (worsts .entry)) r (now (lasts .exit)) (now (worsts .exit)) ⌝ }
 {
     if verdict::overfull(rows, count, 0) {

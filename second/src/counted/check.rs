@@ -21,7 +21,8 @@ pub fn most_terms(order: &Order, build: &Build) -> u64 {
     terms
 }
 
-/// Every member's test, partition by partition in rank order.
+/// The members' tests, partition by partition in rank order; none of a task after one that is known not to pass: no
+/// window of such a one closes before that of the one above it.
 struct Tests {
     lines: Vec<Line>,
     known: Known,
@@ -34,9 +35,16 @@ impl Tests {
             lines[seat.partition as usize].put_in(order, i);
         }
         let mut known = Known::default();
+        let mut failing = build.seats.len();
         for line in &lines {
-            for rank in 0..line.rows.len() {
-                line.passes(rank, &mut known, terms);
+            let mut last = 0;
+            for (rank, &number) in line.numbers.iter().enumerate() {
+                if number > failing {
+                    known.lasts[number] = last;
+                } else if !line.passes(rank, &mut known, terms) {
+                    failing = number;
+                }
+                last = known.lasts[number];
             }
         }
         Tests { lines, known }

@@ -10,7 +10,7 @@ pub struct Tested {
 }
 
 /// More is asked in every tick than the tick itself: no window closes.
-fn overfull(rows: &[Row], blocking: u32, terms: &mut u64) -> bool {
+pub fn overfull(rows: &[Row], blocking: u32, terms: &mut u64) -> bool {
     let (_, taken) = line_below(rows, 0, HORIZON, terms);
     WHOLE < taken + u64::from(blocking.min(1))
 }

@@ -36,7 +36,7 @@ element-copy-out-key-of c = omega (arith, c .before .before .pre .0 .known-task,
 
 -- src/lib.rt:63:13
 key-of-requires : tie.Need-key-of-requires Inv-loop μ-loop
-key-of-requires c κs = 
+key-of-requires c κs =
     let so = c .before .before .before .pre .0 in
     let task = so .limits .each (c .before .before .before .args .task) (so .known-task) in
     (omega (arith, c .before .loop-test .taken, c .before .before .before .pre .1), omega (arith, so .rows .each (c .before .before .before .args .task) (so .known-task) .deadline, task .deadline-in .1, task .period-in .1), omega (arith, c .before .before .before .pre .0 .known-task, c .before .before .before .pre .0 .limits .tasks .1))

@@ -27,7 +27,7 @@ empty-requires c κs = search needs
 
 -- src/records.rt:70:9
 returns : tie.Need-returns
-returns c = 
+returns c =
     let turns = c .before .before .before .before .take-turns in
     ap (λ (b : Build). record { answer = Refused (c .before .before .answer .given .0 .0); build = b }) (c .empty .ensures)
     ∙ recorded-refused (c .before .before .before .before .before .before .before .args .order) (turns .result) (turns .ensures .answer) (c .before .before .answer .given .0 .0) (c .before .before .answer .given .1)
@@ -47,7 +47,7 @@ records-of-requires c κs = (let turns = c .before .before .before .before .befo
 
 -- src/records.rt:61:1
 returns-2 : tie.Need-returns-2
-returns-2 c = 
+returns-2 c =
     let turns = c .before .before .before .before .before .before .before .before .take-turns in
     recorded-done (c .before .before .before .before .before .before .before .before .before .before .before .args .order) (turns .result) (turns .ensures .answer) _ (c .before .before .records-of .result) (c .before .before .before .before .before .before .enum-told .given .1) (c .before .before .records-of .ensures (let turns = c .before .before .before .before .before .before .before .before .take-turns in
     let lines = turns .ensures .lines _ (c .before .before .before .before .before .before .enum-told .given .1) in

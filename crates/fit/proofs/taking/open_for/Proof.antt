@@ -37,7 +37,7 @@ going-on-requires c κs = search needs
 
 -- src/taking.rt:29:9
 returns : tie.Need-returns
-returns c = 
+returns c =
     let a = c .before .before .before .before .before .before .before .before .before .args in
     c .going-on .ensures
     ∙ ap goingOn (c .before .put .ensures ∙ ap (λ (s : Placing). put s (a .task) (a .placing .opened)) (c .before .before .open-next .ensures))
@@ -49,7 +49,7 @@ cast-t14 c = search needs
 
 -- src/taking.rt:21:1
 returns-2 : tie.Need-returns-2
-returns-2 c = 
+returns-2 c =
     let a = c .before .before .before .before .before .before .args in
     sym (opening-none (a .order) (a .placing) (a .task) (c .if1 .left))
 
