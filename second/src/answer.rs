@@ -58,7 +58,7 @@ pub enum Cause {
     BuildLength = 22,
     BuildSpare = 23,
     Partition = 24,
-    Seat = 25,
+    Member = 25,
     Rank = 26,
     Window = 27,
     Start = 28,

@@ -1,4 +1,4 @@
-//! Builds: the partitions, and each task's seat in one of them.
+//! Builds: the partitions, and each task's member in one of them.
 
 use crate::bits::Layout;
 use crate::order::Order;
@@ -25,18 +25,18 @@ impl Partition {
 
 /// What a build records of a task.
 #[derive(Clone, Copy, Debug, Default, PartialEq, Eq)]
-pub struct Seat {
+pub struct Member {
     pub partition: u32,
     pub rank: u32,
     pub response: u32,
 }
 
-/// M, the partitions and the tasks' seats.
+/// M, the partitions and the tasks' members.
 #[derive(Clone, Debug, PartialEq, Eq)]
 pub struct Build {
     pub processors: u32,
     pub partitions: Vec<Partition>,
-    pub seats: Vec<Seat>,
+    pub members: Vec<Member>,
 }
 
 impl Build {
@@ -47,33 +47,33 @@ impl Build {
     /// Volume, first processor, spare.
     pub const PARTITION: Layout<3> = Layout([7, 6, 3]);
     /// Partition, rank, worst response, spare.
-    pub const SEAT: Layout<4> = Layout([6, 5, 20, 1]);
+    pub const MEMBER: Layout<4> = Layout([6, 5, 20, 1]);
 
     /// The length on the wire of a build of p partitions and n tasks.
     pub fn length(p: usize, n: usize) -> usize {
-        Self::HEADER.bytes() + p * Self::PARTITION.bytes() + n * Self::SEAT.bytes()
+        Self::HEADER.bytes() + p * Self::PARTITION.bytes() + n * Self::MEMBER.bytes()
     }
 
     /// The build on the wire.
     pub fn bytes(&self) -> Vec<u8> {
-        let (p, n) = (self.partitions.len(), self.seats.len());
+        let (p, n) = (self.partitions.len(), self.members.len());
         let mut bytes = Vec::with_capacity(Self::length(p, n));
         let header = [Self::VERSION, self.processors, n as u32, p as u32];
         Self::HEADER.write(header, &mut bytes);
         for part in &self.partitions {
             Self::PARTITION.write([part.volume, part.first, 0], &mut bytes);
         }
-        for seat in &self.seats {
-            Self::SEAT.write([seat.partition, seat.rank, seat.response, 0], &mut bytes);
+        for member in &self.members {
+            Self::MEMBER.write([member.partition, member.rank, member.response, 0], &mut bytes);
         }
         bytes
     }
 
-    /// The members of each partition; every seat is in one.
+    /// The members of each partition; every member is in one.
     pub fn rosters(&self, order: &Order) -> Vec<Roster> {
         let mut rosters = vec![Roster::default(); self.partitions.len()];
-        for (i, (seat, &task)) in self.seats.iter().zip(&order.tasks).enumerate() {
-            rosters[seat.partition as usize].add(i, task);
+        for (i, (member, &task)) in self.members.iter().zip(&order.tasks).enumerate() {
+            rosters[member.partition as usize].add(i, task);
         }
         rosters
     }

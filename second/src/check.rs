@@ -1,7 +1,7 @@
 //! The build check.
 
 use crate::answer::{Cause, Refusal};
-use crate::build::{Build, Partition, Seat};
+use crate::build::{Build, Member, Partition};
 use crate::order::Order;
 
 /// The order and the build, if every rule holds: the order's 1 to 10, then 20 to 30 in turn.
@@ -28,7 +28,7 @@ pub fn read(bytes: &[u8], order: &Order) -> Result<Build, Refusal> {
     )?;
     Cause::BuildLength.unless(bytes.len() == Build::length(p, n))?;
     let records = &bytes[Build::HEADER.bytes()..];
-    let (partitions, seats) = records.split_at(p * Build::PARTITION.bytes());
+    let (partitions, members) = records.split_at(p * Build::PARTITION.bytes());
     let mut spares = 0;
     let build = Build {
         processors,
@@ -39,11 +39,11 @@ pub fn read(bytes: &[u8], order: &Order) -> Result<Build, Refusal> {
                 Partition { volume, first }
             })
             .collect(),
-        seats: Build::SEAT
-            .read_all(seats)
+        members: Build::MEMBER
+            .read_all(members)
             .map(|[partition, rank, response, spare]| {
                 spares |= spare;
-                Seat { partition, rank, response }
+                Member { partition, rank, response }
             })
             .collect(),
     };
@@ -64,9 +64,9 @@ fn partitions_apart(build: &Build) -> Result<(), Refusal> {
 
 /// 25: every task is in a partition at least as wide as it is.
 fn seats_wide_enough(order: &Order, build: &Build) -> Result<(), Refusal> {
-    for (i, (task, seat)) in order.tasks.iter().zip(&build.seats).enumerate() {
-        let part = build.partitions.get(seat.partition as usize);
-        Cause::Seat.unless_at(i, part.is_some_and(|part| part.volume >= task.m))?;
+    for (i, (task, member)) in order.tasks.iter().zip(&build.members).enumerate() {
+        let part = build.partitions.get(member.partition as usize);
+        Cause::Member.unless_at(i, part.is_some_and(|part| part.volume >= task.m))?;
     }
     Ok(())
 }
@@ -74,14 +74,14 @@ fn seats_wide_enough(order: &Order, build: &Build) -> Result<(), Refusal> {
 /// 26 for all tasks, then task by task 27 to 30.
 fn ranks_and_responses(order: &Order, build: &Build) -> Result<(), Refusal> {
     let rosters = build.rosters(order);
-    let roster = |seat: &Seat| &rosters[seat.partition as usize];
-    for (i, seat) in build.seats.iter().enumerate() {
-        Cause::Rank.unless_at(i, roster(seat).rank(i) == Some(seat.rank as usize))?;
+    let roster = |member: &Member| &rosters[member.partition as usize];
+    for (i, member) in build.members.iter().enumerate() {
+        Cause::Rank.unless_at(i, roster(member).rank(i) == Some(member.rank as usize))?;
     }
-    for (i, seat) in build.seats.iter().enumerate() {
-        let response = roster(seat).response(seat.rank as usize);
+    for (i, member) in build.members.iter().enumerate() {
+        let response = roster(member).response(member.rank as usize);
         let response = response.map_err(|cause| cause.at(i))?;
-        Cause::Response.unless_at(i, response == seat.response)?;
+        Cause::Response.unless_at(i, response == member.response)?;
     }
     Ok(())
 }

@@ -1,7 +1,7 @@
 //! First fit by decreasing volume.
 
 use crate::answer::{Cause, Refusal};
-use crate::build::{Build, Partition, Seat};
+use crate::build::{Build, Member, Partition};
 use crate::order::Order;
 use crate::response::Roster;
 use std::cmp::Reverse;
@@ -53,16 +53,16 @@ fn join(open: &mut [Open], order: &Order, i: usize) -> bool {
 
 /// The build with the final ranks and worst responses.
 fn record(order: &Order, open: &[Open]) -> Build {
-    let mut seats = vec![Seat::default(); order.tasks.len()];
+    let mut members = vec![Member::default(); order.tasks.len()];
     for (partition, Open { roster, .. }) in open.iter().enumerate() {
         let responses = roster.responses().expect("every member passed");
         for (rank, (&i, response)) in roster.numbers.iter().zip(responses).enumerate() {
-            seats[i] = Seat { partition: partition as u32, rank: rank as u32, response };
+            members[i] = Member { partition: partition as u32, rank: rank as u32, response };
         }
     }
     Build {
         processors: order.processors,
         partitions: open.iter().map(|part| part.partition).collect(),
-        seats,
+        members,
     }
 }

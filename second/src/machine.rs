@@ -16,15 +16,15 @@ pub fn finish_ticks(build: &Build, records: &[Record]) -> Vec<u32> {
 
 /// Runs one partition's jobs; what the others do is nothing to it.
 fn run_partition(build: &Build, partition: u32, records: &[Record], finish: &mut [u32]) {
-    let seat = |r: usize| build.seats[records[r].task];
-    let of_partition = |&r: &usize| seat(r).partition == partition;
+    let member = |r: usize| build.members[records[r].task];
+    let of_partition = |&r: &usize| member(r).partition == partition;
     let mut releases = (0..records.len()).filter(of_partition).peekable();
     // By rank, then by record: the highest priority first, the oldest first within a task.
     let mut waiting = BinaryHeap::new();
     let mut tick = 0;
     loop {
         while let Some(r) = releases.next_if(|&r| records[r].tick <= tick) {
-            waiting.push(Reverse((seat(r).rank, r)));
+            waiting.push(Reverse((member(r).rank, r)));
         }
         if let Some(Reverse((_, r))) = waiting.pop() {
             tick += records[r].length;

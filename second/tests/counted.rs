@@ -27,7 +27,7 @@ fn checks_alike() {
         let order = orders::order(&mut random, &Scale::FULL);
         let mut build = builds::by_hand(&mut random, &order);
         if random.one_in(4) {
-            build.seats[0].response ^= 1;
+            build.members[0].response ^= 1;
         }
         let answer = check(&order.bytes(), &build.bytes());
         if matches!(answer.number, 0 | 27..=30) {

@@ -45,10 +45,10 @@ fn builds_hold() {
         assert_eq!(second::check(&order.bytes(), &build).number, 0);
         let records = scripts::legal(&mut random, &order, &Scale::FULL);
         let finish = run(&order, &build, &records);
-        let seats = &build[build.len() - 4 * order.tasks.len()..];
+        let members = &build[build.len() - 4 * order.tasks.len()..];
         for (record, finish) in records.iter().zip(finish) {
-            let seat = seats[4 * record.task..][..4].try_into().unwrap();
-            let response = u32::from_be_bytes(seat) >> 1 & 0xF_FFFF;
+            let member = members[4 * record.task..][..4].try_into().unwrap();
+            let response = u32::from_be_bytes(member) >> 1 & 0xF_FFFF;
             assert!(response <= order.tasks[record.task].d);
             assert!(finish - record.tick <= response, "{order:?} {records:?}");
         }
@@ -59,8 +59,8 @@ fn builds_hold() {
 #[test]
 fn partitions_are_apart() {
     for (mut random, order, build) in planned(5, 5_000) {
-        let seats = &build[build.len() - 4 * order.tasks.len()..];
-        let partition = |record: &Record| seats[4 * record.task] >> 2;
+        let members = &build[build.len() - 4 * order.tasks.len()..];
+        let partition = |record: &Record| members[4 * record.task] >> 2;
         let records = scripts::legal(&mut random, &order, &Scale::FULL);
         let finish = run(&order, &build, &records);
         for j in 0..build[2] & 127 {

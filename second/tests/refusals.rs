@@ -1,7 +1,7 @@
 //! Each refusal by one alteration of the sample, and which comes first of two.
 
 use second::answer::{Answer, NO_PLACE};
-use second::build::{Build, Partition, Seat};
+use second::build::{Build, Member, Partition};
 use second::generate::damage::set;
 use second::order::{Order, Task};
 use second::script::{self, Record};
@@ -19,13 +19,13 @@ fn tasks(rows: &[(u32, u32, u32, u32)]) -> Vec<Task> {
     rows.iter().map(task).collect()
 }
 
-fn build(processors: u32, partitions: &[(u32, u32)], seats: &[(u32, u32, u32)]) -> Vec<u8> {
+fn build(processors: u32, partitions: &[(u32, u32)], members: &[(u32, u32, u32)]) -> Vec<u8> {
     let partition = |&(volume, first)| Partition { volume, first };
-    let seat = |&(partition, rank, response)| Seat { partition, rank, response };
+    let member = |&(partition, rank, response)| Member { partition, rank, response };
     Build {
         processors,
         partitions: partitions.iter().map(partition).collect(),
-        seats: seats.iter().map(seat).collect(),
+        members: members.iter().map(member).collect(),
     }
     .bytes()
 }
@@ -195,7 +195,7 @@ fn of_the_writer() {
 
 #[test]
 fn of_the_build() {
-    let other = |parts: &[(u32, u32)], seats: &[(u32, u32, u32)]| build(4, parts, seats);
+    let other = |parts: &[(u32, u32)], members: &[(u32, u32, u32)]| build(4, parts, members);
     build_refused(20, NO_PLACE, |build| build.truncate(2));
     build_refused(21, NO_PLACE, |build| set(build, 0, 4, 0));
     build_refused(21, NO_PLACE, |build| set(build, 4, 7, 5));

@@ -2,6 +2,6 @@ pub mod Lines
 pub mod Gathering
 pub mod Passing
 pub mod Turning
-pub mod Seats
+pub mod Heads
 pub mod Done
 pub mod Prepared

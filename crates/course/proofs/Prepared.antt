@@ -23,9 +23,9 @@ use Rattle.stepper.specs.Lines.{recordTask, recordJoins, NextOf}
 use Rattle.stepper.specs.Follow.{rankOf, oldestOf, Heads, Marks, Follows, LegalRun, Chained}
 use Rattle.stepper.proofs.Ranks.{bit-none}
 use Rattle.stepper.proofs.Above.{ranks-apart}
-use Rattle.course.specs.Ahead.{Ahead, Grouped, LinedUp, RunArrays, Seats, seatsOf}
+use Rattle.course.specs.Ahead.{Ahead, Grouped, LinedUp, RunArrays, HeadsFrom, headsOf}
 use Rattle.course.specs.Course.{Courses, Turns, Begins, FinishesNoted, Runnable}
-use Rattle.course.proofs.Seats.{length-seats, seats-at}
+use Rattle.course.proofs.Heads.{length-heads, heads-at}
 
 -- a partition's machine before tick 0
 abbrev pub first-machine : (oldest : List ℕ) → (ahead : ℕ) → Machine
@@ -144,8 +144,8 @@ module _ {o : Order} {b : Build} {script : List Release} {keys durations homes r
       let known : k < o .tasks = omega (arith, so .count) in
       omega (arith, so .lined .rank-at k known, so .lined .legal-run .ranked k known, rank-less o (membersOf b (homeOf b k)) k known, so .lined .legal-run .few)
 
-  pub seats : Seats oldest homes ranks tasks
-  seats =
+  pub heads-from : HeadsFrom oldest homes ranks tasks
+  heads-from =
       record {
         few = omega (arith, so .count, so .lined .legal-run .few);
         first-places = so .by-task .first-places;
@@ -166,16 +166,16 @@ module _ {o : Order} {b : Build} {script : List Release} {keys durations homes r
             absurd (ranks-apart (so .lined .legal-run) p x y known known′ (sym (so .home-at x known) ∙ home) (sym (so .home-at y known′) ∙ home′) n (sym (so .lined .rank-at x known) ∙ same ∙ so .lined .rank-at y known′))
 
     abbrev pub heads : List ℕ
-    heads = seatsOf oldest homes ranks p tasks
+    heads = headsOf oldest homes ranks p tasks
 
     heads-are : (k : ℕ) → k < o .tasks → homeOf b k ≡ p → getD heads (rankOf b k) 0 ≡ getD oldest k 0
     heads-are k known home =
         ap (λ (r : ℕ). getD heads r 0) (sym (so .lined .rank-at k known))
-        ∙ seats-at oldest homes ranks p tasks rank-few no-two k (omega (arith, so .count)) (so .home-at k known ∙ home)
+        ∙ heads-at oldest homes ranks p tasks rank-few no-two k (omega (arith, so .count)) (so .home-at k known ∙ home)
 
     pub courses : Courses o b script p (first-machine heads (getD first p 0))
     courses =
-        first-courses (so .lined .legal-run) p heads (getD first p 0) (length-seats oldest homes ranks p tasks)
+        first-courses (so .lined .legal-run) p heads (getD first p 0) (length-heads oldest homes ranks p tasks)
         (λ k known home. rw (heads-are k known home) (so .by-task .first-at k (omega (arith, so .lined .legal-run .few))))
         (so .by-home .first-at p (omega (arith, so .few-partitions)))
 

@@ -52,7 +52,7 @@ pub record RunArrays (o : Order) (b : Build) (script : List Release) (keys durat
   pub after-at : (i : ℕ) → i < length script → NextOf (homeOf b) script (homeOf b (recordTask script i)) (suc i) (getD after i 0)
 
 -- each task's first record, its partition and its rank
-pub record Seats (first homes ranks : List ℕ) (tasks : ℕ) : Type 0 where
+pub record HeadsFrom (first homes ranks : List ℕ) (tasks : ℕ) : Type 0 where
   pub few : tasks ≤ mostTasks
   pub first-places : length first ≡ mostTasks
   pub home-places : length homes ≡ mostTasks
@@ -60,9 +60,9 @@ pub record Seats (first homes ranks : List ℕ) (tasks : ℕ) : Type 0 where
   pub rank-few : (k : ℕ) → k < tasks → getD ranks k 0 < mostTasks
 
 -- by rank, the first record of each task below k that is in partition p
-unfoldable pub seatsOf : (first homes ranks : List ℕ) → (p k : ℕ) → List ℕ
-seatsOf first homes ranks p zero = replicate mostTasks 0
-seatsOf first homes ranks p (suc k) = pick (eqb (getD homes k 0) p) (set (seatsOf first homes ranks p k) (getD ranks k 0) (getD first k 0)) (seatsOf first homes ranks p k)
+unfoldable pub headsOf : (first homes ranks : List ℕ) → (p k : ℕ) → List ℕ
+headsOf first homes ranks p zero = replicate mostTasks 0
+headsOf first homes ranks p (suc k) = pick (eqb (getD homes k 0) p) (set (headsOf first homes ranks p k) (getD ranks k 0) (getD first k 0)) (headsOf first homes ranks p k)
 
 -- from a partition's first record that joins at a tick or later, up to another tick
 pub record Gathers (keys ranks after : List ℕ) (from until : ℕ) : Type 0 where

@@ -9,7 +9,7 @@ ghost use lib.ListN.{length, getD, set};
 ghost use Rattle.laws.specs.Choice.{pick};
 ghost use Rattle.laws.specs.Joined.{filled};
 ghost use Rattle.model.specs.Limits.{zeroMember, mostTasks, mostRecords};
-ghost use Rattle.course.specs.Ahead.{Grouped, LinedUp, Seats, seatsOf};
+ghost use Rattle.course.specs.Ahead.{Grouped, LinedUp, HeadsFrom, headsOf};
 
 // Each group's first record, and into next each record's next of its group; NO_RECORD where there is none.
 pub fn line_up(
@@ -74,7 +74,7 @@ pub fn ranks_of(members: [Member; Order::MOST_TASKS], tasks: usize) -> [u32; Ord
 }
 
 // A member's first record goes to its rank.
-fn seat(oldest: &mut [u16; Order::MOST_TASKS], rank: usize, first: u16, here: bool)
+fn put_head(oldest: &mut [u16; Order::MOST_TASKS], rank: usize, first: u16, here: bool)
     requires { ⌜ (rank < mostTasks) × (length (now oldest) ≡ mostTasks) ⌝ }
     ensures { λ x. ⌜ now (oldest .exit) ≡ pick here (set (now (oldest .entry)) rank first) (now (oldest .entry)) ⌝ }
 {
@@ -91,13 +91,13 @@ pub fn oldest_of(
     tasks: usize,
     partition: u32,
 ) -> [u16; Order::MOST_TASKS]
-    requires { ⌜ Seats (now first) (now homes) (now ranks) tasks ⌝ }
-    ensures { λ r. ⌜ r ≡ seatsOf (now (first .entry)) (now (homes .entry)) (now (ranks .entry)) partition tasks ⌝ }
+    requires { ⌜ HeadsFrom (now first) (now homes) (now ranks) tasks ⌝ }
+    ensures { λ r. ⌜ r ≡ headsOf (now (first .entry)) (now (homes .entry)) (now (ranks .entry)) partition tasks ⌝ }
 {
     let mut oldest = [0u16; Order::MOST_TASKS];
     let mut k: usize = 0;
     while k < tasks {
-        seat(
+        put_head(
             &mut oldest,
             ranks[k] as usize,
             first[k],

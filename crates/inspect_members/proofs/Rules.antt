@@ -15,19 +15,19 @@ use Rattle.model.specs.declared.answer.BuildCause.the-variants.{Rank}
 use Rattle.model.specs.Limits.{memberOf, homeOf}
 use Rattle.model.specs.Rules.{Tells, TestsTell, rule, equal}
 use Rattle.model.proofs.Rules.{tell-all, tell-one, equal-tells, eachRule, AllPass, scan-at}
-use Rattle.inspect_members.specs.Rules.{wideEnough, WideEnough, seated, rightRank, widthRules, rankRules}
+use Rattle.inspect_members.specs.Rules.{wideEnough, WideEnough, wellHoused, rightRank, widthRules, rankRules}
 use Rattle.inspect_members.specs.Line.{RanksBy}
 
-seated-tells : (o : Order) (b : Build) (i : ℕ) → Tells (seated o b i)
+wellHoused-tells : (o : Order) (b : Build) (i : ℕ) → Tells (wellHoused o b i)
 unfolding wideEnough
-seated-tells o b i = (
+wellHoused-tells o b i = (
   λ e. let both = and-both (ltb (homeOf b i) (b .partitions)) _ e in record { there = ltb-true _ _ (both .0); wide = leb-true _ _ (both .1) },
   λ w. both-and _ _ (lt-ltb _ _ (w .there)) (le-leb _ _ (w .wide)),
 )
 
 pub widths-tell : (o : Order) (b : Build) → TestsTell (widthRules o b)
 unfolding widthRules
-widths-tell o b = tell-all _ (o .tasks) (λ i l. tell-one (seated o b i) _ (seated-tells o b i))
+widths-tell o b = tell-all _ (o .tasks) (λ i l. tell-one (wellHoused o b i) _ (wellHoused-tells o b i))
 
 pub ranks-tell : (o : Order) (b : Build) → TestsTell (rankRules o b)
 unfolding rankRules
@@ -36,7 +36,7 @@ ranks-tell o b = tell-all _ (o .tasks) (λ i l. tell-one (rightRank o b i) _ (eq
 -- what the tests passed give
 pub wide-at : (o : Order) (b : Build) → AllPass (widthRules o b) → (i : ℕ) → i < o .tasks → WideEnough o b i
 unfolding widthRules AllPass
-wide-at o b all i l = seated-tells o b i .0 (scan-at _ (o .tasks) i l all .0)
+wide-at o b all i l = wellHoused-tells o b i .0 (scan-at _ (o .tasks) i l all .0)
 
 -- 26 by ranks that were found
 pub ranks-found : (o : Order) (b : Build) (ranks : List ℕ) → RanksBy o b ranks → rankRules o b ≡ joined (eachRule (λ i. equal (memberOf b i .rank) (getD ranks i 0)) (λ i. OfBuild (Rank i))) (o .tasks)

@@ -21,8 +21,8 @@ pub record WideEnough (o : Order) (b : Build) (i : ℕ) : Type 0 where
 unfoldable pub wideEnough : Order → Build → ℕ → Bool
 wideEnough o b i = ltb (homeOf b i) (b .partitions) && leb (taskOf o i .width) (volumeOf (placeOf b (homeOf b i)))
 
-abbrev pub seated : Order → Build → ℕ → Fact
-seated o b i = record { says = WideEnough o b i; test = wideEnough o b i }
+abbrev pub wellHoused : Order → Build → ℕ → Fact
+wellHoused o b i = record { says = WideEnough o b i; test = wideEnough o b i }
 
 -- 26: "rank wrong"
 abbrev pub rightRank : Order → Build → ℕ → Fact
@@ -30,7 +30,7 @@ rightRank o b i = equal (memberOf b i .rank) (rank o (membersOf b (homeOf b i)) 
 
 -- "all tasks for 25, all for 26"
 unfoldable pub widthRules : Order → Build → List Rule
-widthRules o b = joined (λ i. rule (seated o b i) (OfBuild (TaskPartition i)) ∷ []) (o .tasks)
+widthRules o b = joined (λ i. rule (wellHoused o b i) (OfBuild (TaskPartition i)) ∷ []) (o .tasks)
 
 unfoldable pub rankRules : Order → Build → List Rule
 rankRules o b = joined (λ i. rule (rightRank o b i) (OfBuild (Rank i)) ∷ []) (o .tasks)

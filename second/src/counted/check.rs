@@ -16,7 +16,7 @@ pub fn check(order: &Order, build: &Build) -> (Result<(), Refusal>, u64) {
 pub fn most_terms(order: &Order, build: &Build) -> u64 {
     let mut terms = 0;
     let tests = Tests::new(order, build, &mut terms);
-    let failing = (0..build.seats.len()).find(|&i| tests.known.worsts[i] == 0);
+    let failing = (0..build.members.len()).find(|&i| tests.known.worsts[i] == 0);
     failing.map(|i| tests.why_not(build, i, &mut terms));
     terms
 }
@@ -31,11 +31,11 @@ struct Tests {
 impl Tests {
     fn new(order: &Order, build: &Build, terms: &mut u64) -> Tests {
         let mut lines = vec![Line::default(); build.partitions.len()];
-        for (i, seat) in build.seats.iter().enumerate() {
-            lines[seat.partition as usize].put_in(order, i);
+        for (i, member) in build.members.iter().enumerate() {
+            lines[member.partition as usize].put_in(order, i);
         }
         let mut known = Known::default();
-        let mut failing = build.seats.len();
+        let mut failing = build.members.len();
         for line in &lines {
             let mut last = 0;
             for (rank, &number) in line.numbers.iter().enumerate() {
@@ -52,7 +52,7 @@ impl Tests {
 
     /// Whether a task that does not pass has no window, or is late.
     fn why_not(&self, build: &Build, i: usize, terms: &mut u64) -> Cause {
-        let line = &self.lines[build.seats[i].partition as usize];
+        let line = &self.lines[build.members[i].partition as usize];
         let rank = line.numbers.iter().position(|&number| number == i).unwrap_or(0);
         let from = self.known.lasts[i];
         match has_window(&line.rows, rank, line.blocking(rank), from, terms) {
@@ -64,12 +64,12 @@ impl Tests {
 
 fn responses(order: &Order, build: &Build, terms: &mut u64) -> Result<(), Refusal> {
     let tests = Tests::new(order, build, terms);
-    for (i, seat) in build.seats.iter().enumerate() {
+    for (i, member) in build.members.iter().enumerate() {
         let worst = tests.known.worsts[i];
         if worst == 0 {
             return Err(tests.why_not(build, i, terms).at(i));
         }
-        Cause::Response.unless_at(i, worst == seat.response)?;
+        Cause::Response.unless_at(i, worst == member.response)?;
     }
     Ok(())
 }

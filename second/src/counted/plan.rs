@@ -2,7 +2,7 @@
 
 use super::trial::{Known, Line};
 use crate::answer::{Cause, Refusal};
-use crate::build::{Build, Partition, Seat};
+use crate::build::{Build, Member, Partition};
 use crate::order::Order;
 use std::cmp::Reverse;
 
@@ -28,14 +28,14 @@ fn first_fit(order: &Order, terms: &mut u64) -> Result<Build, Refusal> {
         lines.push(Line::default());
         lines.last_mut().map(|line| takes(line, order, i, &mut known, terms));
     }
-    let mut seats = vec![Seat::default(); order.tasks.len()];
+    let mut members = vec![Member::default(); order.tasks.len()];
     for (partition, line) in lines.iter().enumerate() {
         for (rank, &i) in line.numbers.iter().enumerate() {
             let response = known.worsts[i];
-            seats[i] = Seat { partition: partition as u32, rank: rank as u32, response };
+            members[i] = Member { partition: partition as u32, rank: rank as u32, response };
         }
     }
-    Ok(Build { processors: order.processors, partitions, seats })
+    Ok(Build { processors: order.processors, partitions, members })
 }
 
 /// Puts a task into a partition if all pass then.

@@ -2,7 +2,7 @@
 
 use super::damage::Section;
 use super::random::Random;
-use crate::build::{Build, Partition, Seat};
+use crate::build::{Build, Member, Partition};
 use crate::order::Order;
 use crate::response::Roster;
 
@@ -16,15 +16,15 @@ pub fn by_hand(random: &mut Random, order: &Order) -> Build {
     }
     add_empty(random, order, &mut rosters);
     let partitions = lay_out(random, order, &rosters);
-    Build { processors: order.processors, partitions, seats: seats(random, order, &rosters) }
+    Build { processors: order.processors, partitions, members: members(random, order, &rosters) }
 }
 
 /// The build with all tasks in one partition, with sound ranks, and sound responses where they pass.
 pub fn all_in_one(order: &Order) -> Build {
     let mut build = ranked_in_one(order);
     let rosters = build.rosters(order);
-    for seat in &mut build.seats {
-        seat.response = rosters[0].response(seat.rank as usize).unwrap_or(0);
+    for member in &mut build.members {
+        member.response = rosters[0].response(member.rank as usize).unwrap_or(0);
     }
     build
 }
@@ -32,11 +32,11 @@ pub fn all_in_one(order: &Order) -> Build {
 /// The build with all tasks in one partition, with sound ranks and no responses.
 pub fn ranked_in_one(order: &Order) -> Build {
     let partitions = vec![Partition { volume: order.processors, first: 0 }];
-    let seats = vec![Seat::default(); order.tasks.len()];
-    let mut build = Build { processors: order.processors, partitions, seats };
+    let members = vec![Member::default(); order.tasks.len()];
+    let mut build = Build { processors: order.processors, partitions, members };
     let rosters = build.rosters(order);
     for (rank, &i) in rosters[0].numbers.iter().enumerate() {
-        build.seats[i].rank = rank as u32;
+        build.members[i].rank = rank as u32;
     }
     build
 }
@@ -46,7 +46,7 @@ pub fn sections(build: &Build) -> Vec<Section> {
     vec![
         Section::new(&Build::HEADER.0, 1),
         Section::new(&Build::PARTITION.0, build.partitions.len()),
-        Section::new(&Build::SEAT.0, build.seats.len()),
+        Section::new(&Build::MEMBER.0, build.members.len()),
     ]
 }
 
@@ -133,18 +133,18 @@ fn lay_out(random: &mut Random, order: &Order, rosters: &[Roster]) -> Vec<Partit
     partitions
 }
 
-/// The tasks' seats; a member that does not pass gets some response.
-fn seats(random: &mut Random, order: &Order, rosters: &[Roster]) -> Vec<Seat> {
-    let mut seats = vec![Seat::default(); order.tasks.len()];
+/// The tasks' members; a member that does not pass gets some response.
+fn members(random: &mut Random, order: &Order, rosters: &[Roster]) -> Vec<Member> {
+    let mut members = vec![Member::default(); order.tasks.len()];
     for (partition, roster) in rosters.iter().enumerate() {
         for (rank, &i) in roster.numbers.iter().enumerate() {
             let response = roster.response(rank).ok();
-            seats[i] = Seat {
+            members[i] = Member {
                 partition: partition as u32,
                 rank: rank as u32,
                 response: response.unwrap_or(random.between(1, order.tasks[i].d)),
             };
         }
     }
-    seats
+    members
 }

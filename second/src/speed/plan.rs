@@ -61,7 +61,7 @@ fn write(order: &Order, partitions: &[Partition], out: &mut [u8]) {
     let header = 1 << 20 | order.processors << 13 | n << 7 | p;
     let (head, records) = out.split_at_mut(3);
     head.copy_from_slice(&header.to_be_bytes()[1..]);
-    let (volumes, seats) = records.split_at_mut(2 * partitions.len());
+    let (volumes, stands) = records.split_at_mut(2 * partitions.len());
     for (j, (partition, record)) in partitions.iter().zip(volumes.chunks_exact_mut(2)).enumerate() {
         let bits = (partition.volume << 9 | partition.first << 3) as u16;
         record.copy_from_slice(&bits.to_be_bytes());
@@ -71,7 +71,7 @@ fn write(order: &Order, partitions: &[Partition], out: &mut [u8]) {
             let response = members.worst_response(0, rank, longest[rank], HORIZON).unwrap_or(0);
             let bits = (j as u32) << 26 | (rank as u32) << 21 | response << 1;
             let at = 4 * usize::from(task);
-            seats[at..at + 4].copy_from_slice(&bits.to_be_bytes());
+            stands[at..at + 4].copy_from_slice(&bits.to_be_bytes());
         }
     }
 }

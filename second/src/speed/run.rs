@@ -1,6 +1,6 @@
 //! The run: the script in one pass, then the jobs, each partition from start to start.
 
-use super::check::{checked, Seats};
+use super::check::{checked, Stands};
 use super::order::Order;
 use super::MOST;
 use crate::answer::{Answer, Cause, Refusal};
@@ -20,13 +20,13 @@ pub fn run(order: &[u8], build: &[u8], script: &[u8], out: &mut [u32]) -> Answer
 }
 
 fn try_run(order: &[u8], build: &[u8], script: &[u8], out: &mut [u32]) -> Result<usize, Refusal> {
-    let (order, seats) = checked(order, build)?;
+    let (order, stands) = checked(order, build)?;
     let (records, rest) = script.as_chunks();
     Cause::ScriptLength.unless(rest.is_empty() && records.len() <= Record::MOST)?;
     let finish = out.get_mut(..records.len()).ok_or(Cause::Places.nowhere())?;
     let mut jobs = legal(&order, records)?;
-    let mut machine = Machine::new(&seats);
-    machine.run(&mut jobs, &seats, finish);
+    let mut machine = Machine::new(&stands);
+    machine.run(&mut jobs, &stands, finish);
     Ok(records.len())
 }
 
@@ -78,20 +78,20 @@ struct Machine {
 }
 
 impl Machine {
-    fn new(seats: &Seats) -> Machine {
-        let partitions = seats.first.map(|first| Partition { waiting: 0, start: 0, first });
+    fn new(stands: &Stands) -> Machine {
+        let partitions = stands.first.map(|first| Partition { waiting: 0, start: 0, first });
         Machine { partitions, queues: [Queue::default(); MOST] }
     }
 
     /// Record by record: its partition starts what is due before it, then the record joins.
-    fn run(&mut self, jobs: &mut [Job], seats: &Seats, finish: &mut [u32]) {
+    fn run(&mut self, jobs: &mut [Job], stands: &Stands, finish: &mut [u32]) {
         for r in 0..jobs.len() {
             let (tick, task) = (jobs[r].tick, usize::from(jobs[r].task));
-            let partition = &mut self.partitions[usize::from(seats.partition[task])];
+            let partition = &mut self.partitions[usize::from(stands.partition[task])];
             while partition.waiting != 0 && partition.start < tick {
                 partition.start_job(&mut self.queues, jobs, finish);
             }
-            let place = seats.place[task];
+            let place = stands.place[task];
             if partition.waiting == 0 {
                 partition.start = partition.start.max(tick);
             }

@@ -11,7 +11,7 @@ use Rattle.model.specs.declared.build.Release.{Release}
 use Rattle.finish.specs.Finish.{finishTicks}
 use Rattle.stepper.specs.Lines.{recordTask}
 use Rattle.course.specs.Course.{Runnable}
-use Rattle.course.proofs.Prepared.{Prepared, by-number, by-home-so, prepared, first-machine, seats, begins, RanBelow, ran-none, ran-more, ran-all}
+use Rattle.course.proofs.Prepared.{Prepared, by-number, by-home-so, prepared, first-machine, heads-from, begins, RanBelow, ran-none, ran-more, ran-all}
 use Rattle.course.proofs.run_all.Statement.{statement}
 use Rattle.course.proofs.run_all.Tie as tie
 use Rattle.course.proofs.run_all.Reads as reads
@@ -70,7 +70,7 @@ loop-holds c = (omega arith, λ o b script so. ran-none o b script (c .before .b
 
 -- src/lib.rt:246:13
 oldest-of-requires : tie.Need-oldest-of-requires Inv-loop μ-loop
-oldest-of-requires c κs = seats (prep (c .before .before .before .before .before) (c .before .before .before .before .before .before .before .before .before .before .before .before .before .before .before .before .before .pre))
+oldest-of-requires c κs = heads-from (prep (c .before .before .before .before .before) (c .before .before .before .before .before .before .before .before .before .before .before .before .before .before .before .before .before .pre))
 
 -- src/lib.rt:247:42
 cast-begin : tie.Need-cast-begin Inv-loop μ-loop

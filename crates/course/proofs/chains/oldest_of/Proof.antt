@@ -5,59 +5,59 @@ use mathlib.Core.List.{List}
 use lib.Dec.{eqb}
 use lib.ListN.{length, getD, set}
 use Rattle.laws.specs.Choice.{pick}
-use Rattle.course.proofs.Seats.{seats-more, length-seats}
+use Rattle.course.proofs.Heads.{heads-more, length-heads}
 use native.Mathlib.Nat.{le-antisymm}
 use native.Mathlib.Omega.{arith}
 use denote.Ref.{now}
-use Rattle.course.specs.Ahead.{seatsOf}
+use Rattle.course.specs.Ahead.{headsOf}
 use Rattle.course.proofs.chains.oldest_of.Statement.{statement}
 use Rattle.course.proofs.chains.oldest_of.Tie as tie
 use Rattle.course.proofs.chains.oldest_of.Reads as reads
 use Rattle.course.proofs.chains.oldest_of.Lts as lts
-use Rattle.course.proofs.chains.seat.Reads as seat-reads
+use Rattle.course.proofs.chains.put_head.Reads as put-head-reads
 
 abbrev Inv-loop : tie.InvT-loop
-Inv-loop first homes ranks tasks partition oldest₀ k₀ oldest k = (k ≤ tasks) × (oldest ≡ seatsOf first homes ranks partition k)
+Inv-loop first homes ranks tasks partition oldest₀ k₀ oldest k = (k ≤ tasks) × (oldest ≡ headsOf first homes ranks partition k)
 
 abbrev μ-loop : tie.MeasureT-loop
 μ-loop first homes ranks tasks partition oldest₀ k₀ oldest k = tasks - k
 
 -- src/lib.rt:110:5
 loop-holds : tie.Need-loop-holds Inv-loop μ-loop
-unfolding seatsOf
+unfolding headsOf
 loop-holds c = (omega arith, refl)
 
 -- src/lib.rt:111:27
-mul-seat : tie.Need-mul-seat Inv-loop μ-loop
-mul-seat c = search needs
+mul-put-head : tie.Need-mul-put-head Inv-loop μ-loop
+mul-put-head c = search needs
 
 -- src/lib.rt:111:27
-element-copy-out-seat : tie.Need-element-copy-out-seat Inv-loop μ-loop
-element-copy-out-seat c = search needs
+element-copy-out-put-head : tie.Need-element-copy-out-put-head Inv-loop μ-loop
+element-copy-out-put-head c = search needs
 
 -- src/lib.rt:111:27
-cast-seat : tie.Need-cast-seat Inv-loop μ-loop
-cast-seat c = record { fits = omega (arith, c .before .before .before .before .pre .rank-few (c .before .before .before .loop .k) (c .before .before .loop-test .taken)) }
+cast-put-head : tie.Need-cast-put-head Inv-loop μ-loop
+cast-put-head c = record { fits = omega (arith, c .before .before .before .before .pre .rank-few (c .before .before .before .loop .k) (c .before .before .loop-test .taken)) }
 
 -- src/lib.rt:111:46
-mul-seat-2 : tie.Need-mul-seat-2 Inv-loop μ-loop
-mul-seat-2 c = search needs
+mul-put-head-2 : tie.Need-mul-put-head-2 Inv-loop μ-loop
+mul-put-head-2 c = search needs
 
 -- src/lib.rt:111:46
-element-copy-out-seat-2 : tie.Need-element-copy-out-seat-2 Inv-loop μ-loop
-element-copy-out-seat-2 c = search needs
+element-copy-out-put-head-2 : tie.Need-element-copy-out-put-head-2 Inv-loop μ-loop
+element-copy-out-put-head-2 c = search needs
 
 -- src/lib.rt:111:56
-mul-seat-3 : tie.Need-mul-seat-3 Inv-loop μ-loop
-mul-seat-3 c = search needs
+mul-put-head-3 : tie.Need-mul-put-head-3 Inv-loop μ-loop
+mul-put-head-3 c = search needs
 
 -- src/lib.rt:111:56
-element-copy-out-seat-3 : tie.Need-element-copy-out-seat-3 Inv-loop μ-loop
-element-copy-out-seat-3 c = search needs
+element-copy-out-put-head-3 : tie.Need-element-copy-out-put-head-3 Inv-loop μ-loop
+element-copy-out-put-head-3 c = search needs
 
 -- src/lib.rt:111:9
-seat-requires : tie.Need-seat-requires Inv-loop μ-loop
-seat-requires c κs = (c .before .before .before .before .before .before .pre .rank-few (c .before .before .before .before .before .loop .k) (c .before .before .before .before .loop-test .taken), ap length (c .before .before .before .before .before .loop .inv .1) ∙ length-seats (now (c .before .before .before .before .before .before .args .first)) (now (c .before .before .before .before .before .before .args .homes)) (now (c .before .before .before .before .before .before .args .ranks)) (c .before .before .before .before .before .before .args .partition) (c .before .before .before .before .before .loop .k))
+put-head-requires : tie.Need-put-head-requires Inv-loop μ-loop
+put-head-requires c κs = (c .before .before .before .before .before .before .pre .rank-few (c .before .before .before .before .before .loop .k) (c .before .before .before .before .loop-test .taken), ap length (c .before .before .before .before .before .loop .inv .1) ∙ length-heads (now (c .before .before .before .before .before .before .args .first)) (now (c .before .before .before .before .before .before .args .homes)) (now (c .before .before .before .before .before .before .args .ranks)) (c .before .before .before .before .before .before .args .partition) (c .before .before .before .before .before .loop .k))
 
 -- src/lib.rt:112:9
 add-k : tie.Need-add-k Inv-loop μ-loop
@@ -69,11 +69,11 @@ loop-less c = search needs
 
 -- src/lib.rt:110:5
 loop-again : tie.Need-loop-again Inv-loop μ-loop
-loop-again c = (omega (arith, c .before .before .before .before .before .loop-test .taken), c .seat .ensures ∙ (ap (λ (xs : List ℕ). pick (eqb (getD (now (c .before .before .before .before .before .before .before .args .homes)) (c .before .before .before .before .before .before .loop .k) 0) (c .before .before .before .before .before .before .before .args .partition)) (set xs (getD (now (c .before .before .before .before .before .before .before .args .ranks)) (c .before .before .before .before .before .before .loop .k) 0) (getD (now (c .before .before .before .before .before .before .before .args .first)) (c .before .before .before .before .before .before .loop .k) 0)) xs) (c .before .before .before .before .before .before .loop .inv .1) ∙ sym (seats-more (now (c .before .before .before .before .before .before .before .args .first)) (now (c .before .before .before .before .before .before .before .args .homes)) (now (c .before .before .before .before .before .before .before .args .ranks)) (c .before .before .before .before .before .before .before .args .partition) (c .before .before .before .before .before .before .loop .k))))
+loop-again c = (omega (arith, c .before .before .before .before .before .loop-test .taken), c .put-head .ensures ∙ (ap (λ (xs : List ℕ). pick (eqb (getD (now (c .before .before .before .before .before .before .before .args .homes)) (c .before .before .before .before .before .before .loop .k) 0) (c .before .before .before .before .before .before .before .args .partition)) (set xs (getD (now (c .before .before .before .before .before .before .before .args .ranks)) (c .before .before .before .before .before .before .loop .k) 0) (getD (now (c .before .before .before .before .before .before .before .args .first)) (c .before .before .before .before .before .before .loop .k) 0)) xs) (c .before .before .before .before .before .before .loop .inv .1) ∙ sym (heads-more (now (c .before .before .before .before .before .before .before .args .first)) (now (c .before .before .before .before .before .before .before .args .homes)) (now (c .before .before .before .before .before .before .before .args .ranks)) (c .before .before .before .before .before .before .before .args .partition) (c .before .before .before .before .before .before .loop .k))))
 
 -- src/lib.rt:98:1
 returns : tie.Need-returns Inv-loop μ-loop
-returns c = c .before .loop .inv .1 ∙ ap (seatsOf (now (c .before .before .args .first)) (now (c .before .before .args .homes)) (now (c .before .before .args .ranks)) (c .before .before .args .partition)) (le-antisymm (c .before .loop .inv .0) (c .loop-test .left))
+returns c = c .before .loop .inv .1 ∙ ap (headsOf (now (c .before .before .args .first)) (now (c .before .before .args .homes)) (now (c .before .before .args .ranks)) (c .before .before .args .partition)) (le-antisymm (c .before .loop .inv .0) (c .loop-test .left))
 
 pub oldest-of-spec : {M : Type 1} → statement M
 oldest-of-spec =
@@ -82,14 +82,14 @@ oldest-of-spec =
     Inv-loop
     μ-loop
     loop-holds
-    mul-seat
-    element-copy-out-seat
-    cast-seat
-    mul-seat-2
-    element-copy-out-seat-2
-    mul-seat-3
-    element-copy-out-seat-3
-    seat-requires
+    mul-put-head
+    element-copy-out-put-head
+    cast-put-head
+    mul-put-head-2
+    element-copy-out-put-head-2
+    mul-put-head-3
+    element-copy-out-put-head-3
+    put-head-requires
     add-k
     loop-less
     loop-again
