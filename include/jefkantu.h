@@ -120,8 +120,8 @@ uint64_t jefkantu_check(const uint8_t *order, size_t order_len,
 // Runs a release script through a build: the check, 40, 46, then record by record 41 to 45; a refusal leaves the output
 // as it was, and success writes one finish tick per record into its counted front.
 // The output must overlap neither the script, nor the build, nor the order; these may overlap each other. Where it
-// overlaps the script, records change while they are read: the call may never end, or answer 0 with wrong finish ticks.
-// Both were seen; docs/CLAIMS.md has the figures.
+// does, their bytes are written over, and nothing is promised of the call: neither its answer, nor that it ends.
+// docs/CLAIMS.md has what was measured.
 uint64_t jefkantu_run(const uint8_t *order, size_t order_len,
                       const uint8_t *build, size_t build_len,
                       const uint8_t *script, size_t script_len,
