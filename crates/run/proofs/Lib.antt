@@ -1,3 +1,4 @@
 pub mod Chain
 pub mod Script
+pub mod Front
 pub mod Claims

@@ -29,8 +29,13 @@ pub fn run(order: &[u8], build: &[u8], script: &[u8], out: &mut [u32]) -> Answer
 {
     let checked = inspect::check_both(order, build);
     let answer = checked.answer;
-    match answer {
-        Answer::Refused(cause) => Answer::Refused(cause),
-        Answer::Done(_) => run_checked(checked.order, checked.build, script, out),
+    if let Answer::Refused(cause) = answer {
+        return Answer::Refused(cause);
     }
+    // Only the front that can be counted is lent on.
+    let records = script.len() / Release::BYTES;
+    if records < out.len() {
+        return run_checked(checked.order, checked.build, script, &mut out[..records]);
+    }
+    run_checked(checked.order, checked.build, script, out)
 }
