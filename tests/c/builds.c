@@ -2,6 +2,7 @@
 #include <stdio.h>
 #include <string.h>
 
+#include "expect.h"
 #include "jefkantu.h"
 
 static const uint8_t order[30] = {
@@ -15,17 +16,6 @@ static const uint8_t build[19] = {
     0x10, 0x81, 0x82, 0x04, 0x00, 0x02, 0x10,
     0x00, 0x00, 0x00, 0x0E, 0x00, 0x20, 0x00, 0x10, 0x04, 0x00, 0x00, 0x08,
 };
-
-static int passed, failed;
-
-static void expect(const char *what, int holds) {
-    if (holds) {
-        passed++;
-    } else {
-        failed++;
-        printf("not so: %s\n", what);
-    }
-}
 
 static void answers(const char *what, uint64_t word, uint32_t number, uint32_t place, uint32_t count) {
     expect(what, jefkantu_number(word) == number);

@@ -2,21 +2,11 @@
 #include <stdio.h>
 #include <string.h>
 
+#include "expect.h"
 #include "jefkantu.h"
 #include "jefkantu_words.h"
 
 enum { COLUMNS = 4, ROOM = 12, NONE = JEFKANTU_NO_PLACE };
-
-static int passed, failed;
-
-static void expect(const char *what, int holds) {
-    if (holds) {
-        passed++;
-    } else {
-        failed++;
-        printf("not so: %s\n", what);
-    }
-}
 
 // The order with the single task (1, 10, 10, 10) on M = 4, with one number changed: 0 is M, then m, T, D and C.
 static uint64_t written_with(size_t changed, uint32_t number, uint8_t *out) {
