@@ -8,6 +8,7 @@ use native.Mathlib.Omega.{arith}
 use lib.Dec.{eqb}
 use lib.ListN.{length}
 use borrow.Author.Tests.{eq-eqb, eqb-true}
+use Rattle.laws.proofs.Choice.{refuted}
 use Rattle.laws.proofs.Every.{clash, and-both, both-and}
 use Rattle.search.specs.declared.Found.the-variants.{At}
 use Rattle.search.proofs.Smallest.{smallest-at}
@@ -42,10 +43,6 @@ up-used k a (runs j b l) e =
     let q = and-both _ (eqb l 0) (p .1) in
     cc (eqb-true j k (p .0), eqb-true b a (q .0), eqb-true l 0 (q .1))
 
-not-true-false : (b : Bool) → (b ≡ true → ⊥) → b ≡ false
-not-true-false true h = absurd (h refl)
-not-true-false false h = refl
-
 module _ (o : Order) (b : Build) where
   -- the only tick is the smallest
   found-at : (releases : Pattern) (task release finish : ℕ) → finish ≤ mostTick → Finishes o b releases task release finish → finishFound o b releases task release ≡ At finish
@@ -53,7 +50,7 @@ module _ (o : Order) (b : Build) where
   found-at releases task release finish small ends =
       smallest-at (λ tick. usedUp task release (boxBefore o b releases tick (homeOf b task) .running)) 0 mostTick finish (omega arith) small
       (used-up task release _ ends)
-      (λ s from below. not-true-false _ (λ e. let same = finishes-once o b releases task release s finish (up-used task release _ e) ends in omega arith))
+      (λ s from below. refuted _ (λ e. let same = finishes-once o b releases task release s finish (up-used task release _ e) ends in omega arith))
 
 pub finish-tick-is-one : FinishTickIsOne
 unfolding finishOf

@@ -14,18 +14,13 @@ use lib.Seq.{ext-getD, getD-set-same, getD-set-other}
 use borrow.Author.Tests.{le-leb, lt-ltb, leb-true, ltb-true}
 use Rattle.laws.specs.Every.{every}
 use Rattle.laws.specs.Joined.{joined, listed}
+use Rattle.laws.proofs.Choice.{same-test}
 use Rattle.laws.proofs.Every.{clash, and-both, both-and}
 use Rattle.laws.proofs.Joined.{joined-same, length-listed, getD-listed}
 use Rattle.model.specs.declared.build.Build.{Build}
 use Rattle.model.specs.Limits.{mostProcessors, placeOf}
 use Rattle.model.specs.Processors.{processorOf}
 use Rattle.inspect_places.specs.Rules.{hasProcessor, takenBelow, partitionRight}
-
--- two tests are one where each passes with the other
-same-test : (a b : Bool) → (a ≡ true → b ≡ true) → (b ≡ true → a ≡ true) → a ≡ b
-same-test true b f g = sym (f refl)
-same-test false true f g = g refl
-same-test false false f g = refl
 
 and-same : (a b c : Bool) → (a ≡ true → b ≡ c) → (a && b) ≡ (a && c)
 and-same true b c same = same refl

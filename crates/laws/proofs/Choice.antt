@@ -1,4 +1,4 @@
--- What a passed test of a range says.
+-- What a passed test of a range says, and laws of tests.
 use mathlib.Core.Path.{_≡_, refl, sym, subst}
 use mathlib.Core.Bool.{Bool, true, false}
 use Prim.Native.Nat.{ℕ, _≤_}
@@ -16,3 +16,28 @@ within-true least most x e =
 
 pub true-within : (least most x : ℕ) → least ≤ x → x ≤ most → within least most x ≡ true
 true-within least most x l m = rw (le-leb least x l) (le-leb x most m)
+
+-- tests that pass together are one
+pub same-test : (a b : Bool) → (a ≡ true → b ≡ true) → (b ≡ true → a ≡ true) → a ≡ b
+same-test true b there back = sym (there refl)
+same-test false true there back = back refl
+same-test false false there back = refl
+
+-- a test that cannot pass
+pub refuted : (test : Bool) → (test ≡ true → ⊥) → test ≡ false
+refuted true never-passes = absurd (never-passes refl)
+refuted false never-passes = refl
+
+pub pick-told : (test : Bool) → pick test true false ≡ test
+pick-told true = refl
+pick-told false = refl
+
+pub pick-never : (test : Bool) → pick test false false ≡ false
+pick-never true = refl
+pick-never false = refl
+
+pub pick-turned : (a b : Bool) → pick a b false ≡ pick b a false
+pick-turned true true = refl
+pick-turned true false = refl
+pick-turned false true = refl
+pick-turned false false = refl

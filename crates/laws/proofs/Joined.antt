@@ -2,7 +2,7 @@
 use mathlib.Core.Path.{_≡_, refl, _∙_}
 use mathlib.Core.List.{List, [], _∷_, _++_, append-assoc, append-nil}
 use mathlib.Core.Logic.{⊎-elim}
-use Prim.Native.Nat.{ℕ, zero, suc, _+_, _-_, _*_, _<_}
+use Prim.Native.Nat.{ℕ, zero, suc, _+_, _-_, _*_, _≤_, _<_}
 use native.Mathlib.Nat.{eq-or-lt-of-le, mul-zero, mul-suc, sub-zero}
 use native.Mathlib.Numerals.{add-one}
 use native.Mathlib.Omega.{arith}
@@ -41,6 +41,12 @@ module _ {ℓ} {A : Type ℓ} where
   unfolding joined
   length-joined f k zero each = omega arith
   length-joined f k (suc n) each = rw (length-append, length-joined f k n each, each n, mul-suc)
+
+  -- each part at most so long
+  pub length-joined-most : (f : ℕ → List A) (k n : ℕ) → ((i : ℕ) → i < n → length (f i) ≤ k) → length (joined f n) ≤ k * n
+  unfolding joined
+  length-joined-most f k zero each = omega arith
+  length-joined-most f k (suc n) each = rw (length-append, mul-suc) (omega (arith, length-joined-most f k n (λ i l. each i (omega arith)), each n (omega arith)))
 
   -- what stands from part i on, where each part has one length
   pub drop-joined : (f : ℕ → List A) (k n i : ℕ) → ((x : ℕ) → length (f x) ≡ k) → i < n → (rest : List A) × (drop (k * i) (joined f n) ≡ f i ++ rest)

@@ -175,6 +175,30 @@ unfolding TestsTell AllPass AllKept
 kept-pass [] tell all = tt
 kept-pass (r ∷ rules) tell all = let h = tell .0 .1 (all .0) in (h, kept-pass rules (tell .1 h) (all .1))
 
+-- the first offence of two parts is in the first, or in the second where the first holds
+pub offence-cut : (a b : List Rule) (refusal : Refusal) → FirstOffence (a ++ b) refusal → FirstOffence a refusal ⊎ (AllKept a × FirstOffence b refusal)
+unfolding FirstOffence AllKept
+offence-cut [] b refusal offence = inr (tt, offence)
+offence-cut (r ∷ a) b refusal offence =
+    ⊎-elim
+    (λ (first : (r .fact .says → ⊥) × (r .refusal ≡ refusal)). inl (inl first))
+    (λ (later : r .fact .says × FirstOffence (a ++ b) refusal).
+    ⊎-elim
+    (λ (front : FirstOffence a refusal). inl (inr (later .0, front)))
+    (λ (rest : AllKept a × FirstOffence b refusal). inr ((later .0, rest .0), rest .1))
+    (offence-cut a b refusal (later .1)))
+    offence
+
+-- the first offence of a scan is at one of its turns
+pub offence-at : (f : ℕ → List Rule) (n : ℕ) (refusal : Refusal) → FirstOffence (joined f n) refusal → (i : ℕ) × (i < n) × AllKept (joined f i) × FirstOffence (f i) refusal
+unfolding joined FirstOffence
+offence-at f zero refusal offence = absurd offence
+offence-at f (suc n) refusal offence =
+    ⊎-elim
+    (λ (front : FirstOffence (joined f n) refusal). let r = offence-at f n refusal front in (r .0, omega (arith, r .1), r .2, r .3))
+    (λ (last : AllKept (joined f n) × FirstOffence (f n) refusal). (n, omega arith, last .0, last .1))
+    (offence-cut (joined f n) (f n) refusal offence)
+
 module _ (count : ℕ) where
   pub refused-offence : (rules : List Rule) (refusal : Refusal) → TestsTell rules → firstBroken count rules ≡ Refused refusal → FirstOffence rules refusal
   unfolding TestsTell firstBroken FirstOffence

@@ -3,7 +3,7 @@ use Prim.Native.Nat.{ℕ}
 use mathlib.Core.Path.{_≡_}
 use mathlib.Core.List.{List, _++_}
 use lib.ListN.{length, drop}
-use Rattle.model.specs.Kinds.{Answer, Done, Refused, Refusal, OfOrder, OfCall, OfBuild, OfScript, OrderCause, OrderShort, OrderVersion, Processors, Tasks, OrderLength, HeaderSpare, TaskSpare, Width, Period, Deadline, RunTime, CallCause, FirstFit, Output, Columns, BuildCause, BuildShort, BuildMismatch, BuildLength, BuildSpare, PartitionPlace, TaskPartition, Rank, Window, Start, Late, Response, ScriptCause, ScriptLength, RecordSpare, RecordTask, RecordOrder, JobLength, ReleaseGap, FinishPlaces}
+use Rattle.model.specs.Kinds.{Answer, Done, Refused, Refusal, OfOrder, OfCall, OfBuild, OfScript, OfText, OrderCause, OrderShort, OrderVersion, Processors, Tasks, OrderLength, HeaderSpare, TaskSpare, Width, Period, Deadline, RunTime, CallCause, FirstFit, Output, Columns, BuildCause, BuildShort, BuildMismatch, BuildLength, BuildSpare, PartitionPlace, TaskPartition, Rank, Window, Start, Late, Response, ScriptCause, ScriptLength, RecordSpare, RecordTask, RecordOrder, JobLength, ReleaseGap, FinishPlaces, TextCause, LineShape, LineNumber, LineCount}
 
 -- "65,535 where none applies"
 abbrev pub noPlace : ℕ
@@ -90,17 +90,30 @@ scriptPlace (JobLength release) = release
 scriptPlace (ReleaseGap release) = release
 scriptPlace FinishPlaces = noPlace
 
+-- "52 .. no place; then line by line, the line as place, 50 .., 51 .."
+abbrev pub textNumber : TextCause → ℕ
+textNumber (LineShape line) = 50
+textNumber (LineNumber line) = 51
+textNumber LineCount = 52
+
+abbrev pub textPlace : TextCause → ℕ
+textPlace (LineShape line) = line
+textPlace (LineNumber line) = line
+textPlace LineCount = noPlace
+
 abbrev pub causeNumber : Refusal → ℕ
 causeNumber (OfOrder cause) = orderNumber cause
 causeNumber (OfCall cause) = callNumber cause
 causeNumber (OfBuild cause) = buildNumber cause
 causeNumber (OfScript cause) = scriptNumber cause
+causeNumber (OfText cause) = textNumber cause
 
 abbrev pub causePlace : Refusal → ℕ
 causePlace (OfOrder cause) = orderPlace cause
 causePlace (OfCall cause) = callPlace cause
 causePlace (OfBuild cause) = buildPlace cause
 causePlace (OfScript cause) = scriptPlace cause
+causePlace (OfText cause) = textPlace cause
 
 -- "0 means done: place 65,535, count of bytes or finish ticks written"; "Refusals have count 0"
 unfoldable pub answerNumber : Answer → ℕ

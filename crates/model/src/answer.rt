@@ -1,7 +1,7 @@
 // The answers, and the causes of refusals by the thing refused; specs/Answer.antt gives each its number and place.
 use crate::Order;
 ghost use mathlib.Core.Path.{_≡_};
-ghost use Rattle.model.specs.Answer.{orderNumber, orderPlace, callNumber, callPlace, buildNumber, buildPlace, scriptNumber, scriptPlace, causeNumber, causePlace};
+ghost use Rattle.model.specs.Answer.{orderNumber, orderPlace, callNumber, callPlace, buildNumber, buildPlace, scriptNumber, scriptPlace, textNumber, textPlace, causeNumber, causePlace};
 
 // What is wrong with an order: 1 to 10. A place is a task.
 pub enum OrderCause {
@@ -51,12 +51,20 @@ pub enum ScriptCause {
     FinishPlaces,
 }
 
+// What is wrong with the text of an order: 50 to 52. A place is a line.
+pub enum TextCause {
+    LineShape(u16),
+    LineNumber(u16),
+    LineCount,
+}
+
 // Why something is refused.
 pub enum Refusal {
     OfOrder(OrderCause),
     OfCall(CallCause),
     OfBuild(BuildCause),
     OfScript(ScriptCause),
+    OfText(TextCause),
 }
 
 // "65,535 where none applies"
@@ -190,6 +198,28 @@ impl ScriptCause {
     }
 }
 
+impl TextCause {
+    pub fn number(self) -> u16
+        ensures { λ r. ⌜ r ≡ textNumber self ⌝ }
+    {
+        match self {
+            TextCause::LineShape(_) => 50,
+            TextCause::LineNumber(_) => 51,
+            TextCause::LineCount => 52,
+        }
+    }
+
+    pub fn place(self) -> u16
+        ensures { λ r. ⌜ r ≡ textPlace self ⌝ }
+    {
+        match self {
+            TextCause::LineShape(line) => line,
+            TextCause::LineNumber(line) => line,
+            TextCause::LineCount => NOWHERE,
+        }
+    }
+}
+
 impl Refusal {
     // "Every answer has a number, a place and a count"
     pub fn number(self) -> u16
@@ -200,6 +230,7 @@ impl Refusal {
             Refusal::OfCall(cause) => cause.number(),
             Refusal::OfBuild(cause) => cause.number(),
             Refusal::OfScript(cause) => cause.number(),
+            Refusal::OfText(cause) => cause.number(),
         }
     }
 
@@ -211,6 +242,7 @@ impl Refusal {
             Refusal::OfCall(cause) => cause.place(),
             Refusal::OfBuild(cause) => cause.place(),
             Refusal::OfScript(cause) => cause.place(),
+            Refusal::OfText(cause) => cause.place(),
         }
     }
 }

@@ -11,6 +11,7 @@ pub use answer::OrderCause;
 pub use answer::Reading;
 pub use answer::Refusal;
 pub use answer::ScriptCause;
+pub use answer::TextCause;
 pub use build::Build;
 pub use build::Member;
 pub use build::Partition;

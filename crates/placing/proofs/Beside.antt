@@ -11,6 +11,7 @@ use lib.ListN.{length, getD, set, length-set}
 use borrow.Author.Tests.{eq-eqb, ne-eqb, eqb-true, eqb-false}
 use Rattle.laws.specs.Sums.{only, sum, largest}
 use Rattle.laws.specs.Every.{every}
+use Rattle.laws.proofs.Choice.{same-test}
 use Rattle.laws.proofs.Every.{clash, both-and, every-at, every-all}
 use Rattle.laws.proofs.Only.{only-true}
 use Rattle.laws.proofs.Sums.{sum-le, largest-in}
@@ -40,12 +41,6 @@ use Rattle.fitting.specs.Steps.{livingIn, membersPass, accepts}
 use Rattle.fitting.proofs.Put.{unplaced-says, living-says, says-living, away-says, says-away, living-same, put-here, put-other, put-unplaced, living-kept}
 use Rattle.fitting.proofs.Accepts.{members-say, say-members}
 use Rattle.placing.specs.Known.{OpenUntil, Known, InLine}
-
--- two tests that imply each other are one
-same-test : (a b : Bool) → (a ≡ true → b ≡ true) → (b ≡ true → a ≡ true) → a ≡ b
-same-test true b there back = sym (there refl)
-same-test false true there back = back refl
-same-test false false there back = refl
 
 not-false : (b : Bool) → not b ≡ true → b ≡ false
 not-false true e = clash e
