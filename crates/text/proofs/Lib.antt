@@ -1,0 +1,3 @@
+pub mod Feeds
+pub mod Lines
+pub mod Rules
