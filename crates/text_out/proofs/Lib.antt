@@ -1,0 +1,4 @@
+pub mod Counted
+pub mod Put
+pub mod Lines
+pub mod Rules
