@@ -1,5 +1,11 @@
 -- Every promise is kept, by the theorem that its claim names.
 use Rattle.order_facts.proofs.Facts.{one-reading, one-writing, refused-reads-zero, accepted-exactly, reading-gives-back, bytes-back, writes-only-counted-front, reading-unique, writing-unique}
+use Rattle.text_facts.proofs.Once.{one-time, one-text}
+use Rattle.text_facts.proofs.Read.{text-accepted-exactly, one-text-reading, read-text-keeps, read-text-unique}
+use Rattle.text_facts.proofs.Refused.{lines-are, lines-refused-exactly, shape-refused-exactly, number-refused-exactly}
+use Rattle.text_facts.proofs.Write.{one-text-writing, write-text-keeps, write-text-unique, text-of-order, short-text, no-leading-zeros}
+use Rattle.text_facts.proofs.Back.{text-read-back}
+use Rattle.text_facts.proofs.Cases.{cases}
 use Rattle.build_facts.proofs.Back.{length-right, reads-back}
 use Rattle.build_facts.proofs.Forth.{writes-back}
 use Rattle.demand.proofs.Meaning.{every-verdict-means, no-start-never}
@@ -19,7 +25,7 @@ use Rattle.finish.proofs.Finish.{every-job-finishes, finish-tick-is-one}
 use Rattle.condition.proofs.Kept.{accepted-is-kept}
 use Rattle.condition.proofs.Runs.{runs-in-time}
 use Rattle.points.proofs.Points as table
-use Rattle.promises.specs.Promises.{Condition1, Condition2, Condition3, Promises}
+use Rattle.promises.specs.Promises.{Condition1, Condition2, Condition3, OrderForm, Promises}
 
 pub condition-1 : Condition1
 condition-1 =
@@ -77,5 +83,28 @@ condition-2 =
 pub condition-3 : Condition3
 condition-3 = record { any-build = accepted-is-kept; any-run = runs-in-time }
 
+pub order-form : OrderForm
+order-form =
+    record {
+      as-typed = text-accepted-exactly;
+      one-time = one-time;
+      one-text = one-text;
+      read = one-text-reading;
+      lines = lines-are;
+      too-many = lines-refused-exactly;
+      unshaped = shape-refused-exactly;
+      over = number-refused-exactly;
+      written = one-text-writing;
+      text = text-of-order;
+      digits = no-leading-zeros;
+      longest = short-text;
+      back = text-read-back;
+      reader-keeps = read-text-keeps;
+      writer-keeps = write-text-keeps;
+      one-reading = read-text-unique;
+      one-writing = write-text-unique;
+      accident = cases;
+    }
+
 pub promises : Promises
-promises = record { condition-1 = condition-1; condition-2 = condition-2; condition-3 = condition-3; points = table.points }
+promises = record { condition-1 = condition-1; condition-2 = condition-2; condition-3 = condition-3; order-form = order-form; points = table.points }

@@ -1,6 +1,8 @@
 -- What the customer was promised: the three conditions of acceptance in the customer's words, and the points on the line.
 -- Each field is a claim that stands, with its definitions, where its `use` line says; proofs/Promises.antt cites its proof.
 use Rattle.order_facts.specs.Claims.{OneReading, OneWriting, RefusedReadsZero, AcceptedExactly, ReadingGivesBack, BytesReadBack, WritesOnlyCountedFront, ReadingUnique, WritingUnique}
+use Rattle.text_facts.specs.Claims.{TextAcceptedExactly, OneTime, OneText, OneTextReading, LinesAre, LinesRefusedExactly, ShapeRefusedExactly, NumberRefusedExactly, OneTextWriting, WrittenIsText, WrittenIsShort, NoLeadingZeros, TextReadBack, ReadTextKeeps, WriteTextKeeps, ReadTextUnique, WriteTextUnique}
+use Rattle.text_facts.specs.Cases.{Cases}
 use Rattle.build_facts.specs.Facts.{LengthRight, ReadsBack, WritesBack}
 use Rattle.demand.specs.Meaning.{EveryVerdictMeans, NoStartNever, AlonePasses}
 use Rattle.turns.specs.Claims.{TurnBeforeMeans, NextMeans}
@@ -81,9 +83,36 @@ pub record Condition3 : Type 0 where
   -- the same of the finish ticks that a run writes
   pub any-run : RunsInTime
 
+-- R-1: "the form's text read as the buyer typed it, or refused"
+pub record OrderForm : Type 0 where
+  -- accepted exactly when it is lines of numbers within the limits, and then the order has just those numbers
+  pub as-typed : TextAcceptedExactly
+  pub one-time : OneTime
+  pub one-text : OneText
+  -- or refused, for its cause and at its line only
+  pub read : OneTextReading
+  pub lines : LinesAre
+  pub too-many : LinesRefusedExactly
+  pub unshaped : ShapeRefusedExactly
+  pub over : NumberRefusedExactly
+  pub written : OneTextWriting
+  -- "Also write the text from an order, with a point and two decimals; reading it back gives the same order."
+  pub text : WrittenIsText
+  pub digits : NoLeadingZeros
+  pub longest : WrittenIsShort
+  pub back : TextReadBack
+  -- only the counted front changes; one answer and one content of the memory
+  pub reader-keeps : ReadTextKeeps
+  pub writer-keeps : WriteTextKeeps
+  pub one-reading : ReadTextUnique
+  pub one-writing : WriteTextUnique
+  -- "7,5 is 750 ticks and 0.01 is 1."
+  pub accident : Cases
+
 pub record Promises : Type 0 where
   pub condition-1 : Condition1
   pub condition-2 : Condition2
   pub condition-3 : Condition3
+  pub order-form : OrderForm
   -- "Points on the line", P1 to P12
   pub points : table.Points

@@ -1,0 +1,1 @@
+// What the order form's text means, read and written; no code.
