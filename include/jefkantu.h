@@ -4,13 +4,15 @@
 // NUMBERS. The library is proved over 32-bit numbers, and C cuts a larger number to 32 bits without a word: 2^32 + 75
 // arrives as 75, -1 as a large number, 7.5 as 7. Hand numbers over by jefkantu_from_unsigned, jefkantu_from_signed,
 // jefkantu_from_real or jefkantu_from_text: whatever is no 32-bit number becomes JEFKANTU_NO_NUMBER, which is over every
-// limit, so that it is refused by name. Compile with -Wconversion, which finds the numbers that go round them.
+// limit, so that it is refused by name. Compile with -Wconversion, which finds the numbers that go round them. The text
+// of an order form goes to jefkantu_read_text as it was typed, every byte of it.
 //
-// BYTES. An order, a build and a script are bytes; docs/FORMATS.md has each bit of them, with a sample:
+// BYTES. An order, a build, a script and a text are bytes; docs/FORMATS.md has each bit of them, with a sample:
 //   order:  3 bytes of header (version, M, n), then 9 for each task (m, T, D, C)
 //   build:  3 bytes of header (version, M, n, p), then 2 for each partition (volume, first processor), then 4 for each
 //           task (partition, rank, worst response)
 //   script: 6 bytes for each record (tick, task, length)
+//   text:   a line m;T;D;C for each task, ended by a line feed, its times in milliseconds: 7,5 and 7.50 are 750 ticks
 //
 // MEMORY. What is lent is what the proofs rest on:
 // - A length counts items from its pointer on, all of them readable, or writable where the call writes.
@@ -39,6 +41,9 @@ extern "C" {
 
 // The length of the longest order, in bytes: 32 tasks.
 #define JEFKANTU_MOST_ORDER_BYTES 291
+
+// The length of the longest text that is written, in bytes: 32 lines. One that is read may be longer.
+#define JEFKANTU_MOST_TEXT_BYTES 960
 
 // The length of the longest build, in bytes: 32 partitions and 32 tasks.
 #define JEFKANTU_MOST_BUILD_BYTES 195
@@ -85,7 +90,7 @@ static inline uint32_t jefkantu_from_text(const char *text) {
 // The number of an answer: 0 is done, any other is the cause of the refusal.
 static inline uint32_t jefkantu_number(uint64_t word) { return (uint32_t)(word % 65536); }
 
-// The place of an answer: the task, partition or record of a refusal, or JEFKANTU_NO_PLACE.
+// The place of an answer: the task, partition, record or line of a refusal, or JEFKANTU_NO_PLACE.
 static inline uint32_t jefkantu_place(uint64_t word) { return (uint32_t)(word / 65536 % 65536); }
 
 // The count of an answer: bytes or finish ticks written, 0 on refusal.
@@ -106,6 +111,17 @@ uint64_t jefkantu_write_order(uint32_t processors,
                               const uint32_t *deadlines, size_t deadlines_len,
                               const uint32_t *runs, size_t runs_len,
                               uint8_t *out, size_t out_len);
+
+// Reads M and the text of an order form, and writes their order: 52, then line by line 50 and 51, then the writer's 3, 4,
+// 7 to 10 and 12; a refusal leaves the output as it was, and success changes only the counted front.
+// A text is any bytes of any length, and no 0 byte ends it. One of no bytes has no task: 3 or 4.
+// The output must not overlap the text. Where it does, the text's bytes are written over by the order.
+uint64_t jefkantu_read_text(uint32_t processors, const uint8_t *text, size_t text_len, uint8_t *out, size_t out_len);
+
+// Writes an order as text, its times with a point and two decimals: the order's 1 to 10, then 12; a refusal leaves the
+// output as it was, and success changes only the counted front. Read back beside the order's M, it gives the same order.
+// The output must not overlap the order. Where it does, the order's bytes are written over by the text.
+uint64_t jefkantu_write_text(const uint8_t *order, size_t order_len, uint8_t *out, size_t out_len);
 
 // Plans an order: the order's 1 to 10, then 11, then 12; a refusal leaves the output as it was, and success writes the
 // build into its counted front.

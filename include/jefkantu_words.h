@@ -20,7 +20,7 @@ static inline const char *jefkantu_words(uint32_t number) {
         case 9: return "D out of range";
         case 10: return "C out of range";
         case 11: return "first fit runs out";
-        case 12: return "output shorter than the order or build";
+        case 12: return "output shorter than the order, build or text";
         case 13: return "the writer's columns differ in length";
         case 20: return "build under 3 bytes";
         case 21: return "build version not 1, M or n not the order's, or p not 1 to 32";
@@ -40,11 +40,14 @@ static inline const char *jefkantu_words(uint32_t number) {
         case 44: return "length 0 or over C";
         case 45: return "releases closer than T";
         case 46: return "too few places for finish ticks";
+        case 50: return "not m;T;D;C and a line feed: type m as digits, times in milliseconds as 7 or 7,5 or 7.50, and nothing else";
+        case 51: return "a number over 1,048,575, times in ticks: type m up to M, and times up to 10000 milliseconds";
+        case 52: return "more than 32 lines: type one for each task, at most 32";
         default: return NULL;
     }
 }
 
-// What the place of a refusal counts, "task", "partition" or "record"; NULL where the number never has a place.
+// What the place of a refusal counts, "task", "partition", "record" or "line"; NULL where the number never has a place.
 static inline const char *jefkantu_place_kind(uint32_t number) {
     switch (number) {
         case 6: return "task";
@@ -65,6 +68,8 @@ static inline const char *jefkantu_place_kind(uint32_t number) {
         case 43: return "record";
         case 44: return "record";
         case 45: return "record";
+        case 50: return "line";
+        case 51: return "line";
         default: return NULL;
     }
 }

@@ -1,8 +1,5 @@
 // Writes the script of P9, runs it through the sample build, and prints each record's finish tick.
-#include <stdio.h>
-
-#include "jefkantu.h"
-#include "jefkantu_words.h"
+#include "show.h"
 
 enum { RECORDS = 3, RECORD_BYTES = 6 };
 
@@ -40,10 +37,7 @@ int main(void) {
         }
     }
     uint64_t word = jefkantu_run(ORDER, sizeof ORDER, BUILD, sizeof BUILD, script, sizeof script, finish, RECORDS);
-    if (jefkantu_number(word) != 0) {
-        fprintf(stderr, "refused %u: %s\n", jefkantu_number(word), jefkantu_words(jefkantu_number(word)));
-        return 1;
-    }
+    if (jefkantu_number(word) != 0) return refused(word);
     for (size_t i = 0; i < RECORDS; i++) printf("finish %zu %u\n", i, finish[i]);
     return 0;
 }

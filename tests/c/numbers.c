@@ -8,6 +8,9 @@
 
 enum { COLUMNS = 4, ROOM = 12, NONE = JEFKANTU_NO_PLACE };
 
+// The text of the task (1, 10, 10, 10).
+static const uint8_t LINE[] = {'1', ';', '0', '.', '1', ';', '0', '.', '1', ';', '0', '.', '1', '\n'};
+
 // The order with the single task (1, 10, 10, 10) on M = 4, with one number changed: 0 is M, then m, T, D and C.
 static uint64_t written_with(size_t changed, uint32_t number, uint8_t *out) {
     uint32_t numbers[1 + COLUMNS] = {4, 1, 10, 10, 10};
@@ -28,6 +31,9 @@ static void refused_everywhere(const char *what, uint32_t number) {
         expect(what, jefkantu_number(word) == NUMBERS[i] && jefkantu_place(word) == PLACES[i]);
         expect(what, memcmp(out, before, ROOM) == 0);
     }
+    uint64_t word = jefkantu_read_text(number, LINE, sizeof LINE, out, ROOM);
+    expect(what, jefkantu_number(word) == 3 && jefkantu_place(word) == NONE);
+    expect(what, memcmp(out, before, ROOM) == 0);
 }
 
 static void numbers_that_do_not_fit(void) {
@@ -74,12 +80,16 @@ static void nothing_lent(void) {
     uint32_t numbers[1][JEFKANTU_ORDER_NUMBERS];
     answers("no order to read", jefkantu_read_order(NULL, 0, numbers), 1);
     answers("no columns", jefkantu_write_order(4, NULL, 0, NULL, 0, NULL, 0, NULL, 0, NULL, 0), 4);
+    answers("no text to read", jefkantu_read_text(4, NULL, 0, NULL, 0), 4);
+    answers("no order to write as text", jefkantu_write_text(NULL, 0, NULL, 0), 1);
     answers("no order to plan", jefkantu_plan(NULL, 0, NULL, 0), 1);
     answers("no order to check", jefkantu_check(NULL, 0, NULL, 0), 1);
     answers("no order to run", jefkantu_run(NULL, 0, NULL, 0, NULL, 0, NULL, 0), 1);
     uint8_t order[ROOM], build[JEFKANTU_MOST_BUILD_BYTES];
     answers("no room", jefkantu_write_order(4, numbers[0], 0, numbers[0], 0, numbers[0], 0, numbers[0], 0, NULL, 0), 4);
     expect("an order", jefkantu_number(written_with(0, 4, order)) == 0);
+    answers("no room for its text", jefkantu_write_text(order, ROOM, NULL, 0), 12);
+    answers("no room for a text's order", jefkantu_read_text(4, LINE, sizeof LINE, NULL, 0), 12);
     answers("no room for its build", jefkantu_plan(order, ROOM, NULL, 0), 12);
     answers("no build", jefkantu_check(order, ROOM, NULL, 0), 20);
     size_t size = jefkantu_count(jefkantu_plan(order, ROOM, build, sizeof build));
@@ -100,6 +110,8 @@ static int same(const char *text, const char *other) { return text != NULL && st
 static void words(void) {
     expect("11", same(jefkantu_words(11), "first fit runs out") && same(jefkantu_place_kind(11), "task"));
     expect("24", same(jefkantu_place_kind(24), "partition"));
+    expect("50", same(jefkantu_place_kind(50), "line") && same(jefkantu_place_kind(51), "line"));
+    expect("52", same(jefkantu_words(52), "more than 32 lines: type one for each task, at most 32") && jefkantu_place_kind(52) == NULL);
     expect("46", same(jefkantu_words(46), "too few places for finish ticks") && jefkantu_place_kind(46) == NULL);
     expect("no such cause", jefkantu_words(0) == NULL && jefkantu_words(14) == NULL && jefkantu_words(65535) == NULL);
 }

@@ -15,7 +15,8 @@ static ucontext_t here, there;
 static uint32_t processors, tasks;
 static uint32_t widths[TASKS], periods[TASKS], deadlines[TASKS], runs[TASKS];
 static uint8_t order[JEFKANTU_MOST_ORDER_BYTES], build[JEFKANTU_MOST_BUILD_BYTES], script[JEFKANTU_MOST_RECORDS * RECORD_BYTES];
-static size_t order_len, build_len, script_len, room, places;
+static uint8_t text[JEFKANTU_MOST_TEXT_BYTES];
+static size_t order_len, text_len, build_len, script_len, room, places;
 static uint32_t numbers[1][JEFKANTU_ORDER_NUMBERS], finish[JEFKANTU_MOST_RECORDS];
 static uint64_t word;
 
@@ -26,6 +27,10 @@ static void call_read(void) { word = jefkantu_read_order(order, order_len, numbe
 static void call_write(void) {
     word = jefkantu_write_order(processors, widths, tasks, periods, tasks, deadlines, tasks, runs, tasks, order, room);
 }
+
+static void call_read_text(void) { word = jefkantu_read_text(processors, text, text_len, order, room); }
+
+static void call_write_text(void) { word = jefkantu_write_text(order, order_len, text, room); }
 
 static void call_plan(void) { word = jefkantu_plan(order, order_len, build, room); }
 
@@ -58,11 +63,12 @@ static size_t depth(void (*call)(void)) {
     return one < other ? other : one;
 }
 
-static size_t most_read, most_write, most_plan, most_check, most_run;
+static size_t most_read, most_write, most_read_text, most_write_text, most_plan, most_check, most_run;
 static int failed;
 
-// Calls, and keeps the most; the answer must have the number.
+// Calls, and keeps the most; the answer must have the number. The first call is not measured: the linker may take part.
 static void calls(const char *what, void (*call)(void), size_t *most, uint32_t number) {
+    call();
     size_t bytes = depth(call) - depth(call_nothing);
     if (*most < bytes) {
         *most = bytes;
@@ -94,6 +100,11 @@ static void plan_tasks(uint32_t width, uint32_t period, uint32_t run) {
     calls("an order written", call_write, &most_write, 0);
     order_len = jefkantu_count(word);
     calls("an order read", call_read, &most_read, 0);
+    room = sizeof text;
+    calls("a text written", call_write_text, &most_write_text, 0);
+    text_len = jefkantu_count(word);
+    room = sizeof order;
+    calls("a text read", call_read_text, &most_read_text, 0);
     room = sizeof build;
     calls("an order planned", call_plan, &most_plan, 0);
     build_len = jefkantu_count(word);
@@ -123,10 +134,15 @@ static void refuse_last(void) {
     room = 0;
     calls("no room for a build", call_plan, &most_plan, 12);
     calls("no room for an order", call_write, &most_write, 12);
+    calls("no room for a text", call_write_text, &most_write_text, 12);
+    calls("no room for a text's order", call_read_text, &most_read_text, 12);
+    text[text_len - 1] = ';';
+    calls("a text without its last line feed", call_read_text, &most_read_text, 50);
     runs[TASKS - 1] = deadlines[TASKS - 1] + 1;
     calls("a run time over its deadline", call_write, &most_write, 10);
     order[order_len - 1] |= 1;
     calls("a spare bit in the last task", call_read, &most_read, 6);
+    calls("a text of that order", call_write_text, &most_write_text, 6);
     calls("a plan of that order", call_plan, &most_plan, 6);
     calls("a check of that order", call_check, &most_check, 6);
 }
@@ -168,6 +184,8 @@ int main(void) {
     refuse_plan();
     tell("jefkantu_read_order", most_read);
     tell("jefkantu_write_order", most_write);
+    tell("jefkantu_read_text", most_read_text);
+    tell("jefkantu_write_text", most_write_text);
     tell("jefkantu_plan", most_plan);
     tell("jefkantu_check", most_check);
     tell("jefkantu_run", most_run);

@@ -2,9 +2,9 @@
 use mathlib.Core.Path.{sym, _∙_}
 use lib.ListN.{length}
 use Rattle.jefkantu.specs.Word.{WordTells}
-use Rattle.jefkantu.specs.Claims.{ReadUnique, WriteUnique, PlanUnique, CheckUnique, RunUnique, ReadTells, WriteTells, PlanTells, CheckTells, RunTells}
+use Rattle.jefkantu.specs.Claims.{ReadUnique, WriteUnique, PlanUnique, CheckUnique, RunUnique, ReadFormUnique, WriteFormUnique, ReadTells, WriteTells, PlanTells, CheckTells, RunTells, ReadFormTells, WriteFormTells}
 use Rattle.jefkantu.proofs.Word.{word-tells}
-use Rattle.jefkantu.proofs.Places.{read-fits, write-fits, plan-fits, check-fits, run-fits}
+use Rattle.jefkantu.proofs.Places.{read-fits, write-fits, plan-fits, check-fits, run-fits, read-text-fits, write-text-fits}
 
 pub read-unique : ReadUnique
 unfolding ReadUnique
@@ -26,6 +26,14 @@ pub run-unique : RunUnique
 unfolding RunUnique
 run-unique order build script output word other after others r s = (r .answered ∙ sym (s .answered), r .written ∙ sym (s .written))
 
+pub read-form-unique : ReadFormUnique
+unfolding ReadFormUnique
+read-form-unique processors text output word other after others r s = (r .answered ∙ sym (s .answered), r .written ∙ sym (s .written))
+
+pub write-form-unique : WriteFormUnique
+unfolding WriteFormUnique
+write-form-unique order output word other after others r s = (r .answered ∙ sym (s .answered), r .written ∙ sym (s .written))
+
 pub read-tells : ReadTells
 unfolding ReadTells WordTells
 read-tells order numbers word after r = word-tells _ (read-fits order) word (r .answered)
@@ -45,3 +53,11 @@ check-tells order build word r = word-tells _ (check-fits order build) word r
 pub run-tells : RunTells
 unfolding RunTells WordTells
 run-tells order build script output word after r = word-tells _ (run-fits order build script (length output)) word (r .answered)
+
+pub read-form-tells : ReadFormTells
+unfolding ReadFormTells WordTells
+read-form-tells processors text output word after r = word-tells _ (read-text-fits processors text (length output)) word (r .answered)
+
+pub write-form-tells : WriteFormTells
+unfolding WriteFormTells WordTells
+write-form-tells order output word after r = word-tells _ (write-text-fits order (length output)) word (r .answered)

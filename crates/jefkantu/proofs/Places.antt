@@ -1,4 +1,4 @@
--- Every place and count that the five functions answer fits its part of the word.
+-- Every place and count that the seven functions answer fits its part of the word.
 use mathlib.Core.Path.{_≡_, refl, ap}
 use mathlib.Core.List.{List, [], _∷_}
 use Prim.Native.Nat.{ℕ, _%_, _≤_, _<_}
@@ -7,6 +7,7 @@ use lib.ListN.{length}
 use lib.Dec.{eqb, leb}
 use borrow.Author.Tests.{leb-true}
 use mathlib.Core.Bool.{true}
+use Rattle.laws.specs.Joined.{joined}
 use Rattle.laws.proofs.Every.{and-both}
 use Rattle.model.specs.declared.order.Order.{Order}
 use Rattle.model.specs.declared.build.Build.{Build}
@@ -20,6 +21,10 @@ use Rattle.order.specs.Order.{headerOf, orderAt, headerRules, spareRules, layou
 use Rattle.order.proofs.Rules.{tasks-small}
 use Rattle.order.proofs.Reading.{read-answer, within-limits}
 use Rattle.order_out.specs.Write.{TaskColumns, columnOrder, writtenRules, writeRules, writeAnswer}
+use Rattle.form.specs.Text.{lineCount, textOrder}
+use Rattle.form.proofs.Written.{written-is-short}
+use Rattle.text.specs.Read.{lineRules, textRules, readTextRules, readTextAnswer}
+use Rattle.text_out.specs.Write.{textOf, writeTextRules, writeTextAnswer}
 use Rattle.build.specs.Build.{buildHeaderOf, buildAt}
 use Rattle.build.proofs.Fits.{header-fits}
 use Rattle.fit.specs.Recorded.{fittedOf}
@@ -135,3 +140,23 @@ run-fits order build script places =
     (λ all.
     let few : count ≤ 1_024 = whole-few script (all .0) in
     alone-fits count _ (omega arith, places-joined _ count (λ i l. let p : i < 65_536 = omega arith in (p, (p, (p, (p, (p, tt))))))) (omega arith)))
+
+-- whatever text is read: past 32 lines it is refused
+pub read-text-fits : (processors : ℕ) (text : List ℕ) (room : ℕ) → FitsWord (readTextAnswer processors text room)
+unfolding readTextAnswer readTextRules textRules lineRules writtenRules textOrder PlacesFit AllPass
+read-text-fits processors text room =
+    let o = textOrder processors text in
+    let size = orderLength 1 (lineCount text) in
+    answer-fits size (_ ∷ []) _ (omega arith, tt)
+    (λ all.
+    let few : lineCount text ≤ 32 = leb-true (lineCount text) 32 (all .0) in
+    let lines = places-joined (lineRules text) (lineCount text) (λ i l. let p : i < 65_536 = omega arith in (p, (p, tt))) in
+    let written = places-append (rangeRules o) (roomRules size room) (range-places o (omega arith)) (room-places size room) in
+    alone-fits size _ (places-append (joined (lineRules text) (lineCount text)) _ lines (omega arith, (omega arith, written))) (omega arith))
+
+pub write-text-fits : (order : List ℕ) (room : ℕ) → FitsWord (writeTextAnswer order room)
+unfolding writeTextAnswer writeTextRules
+write-text-fits order room =
+    let size = length (textOf order) in
+    answer-fits size (orderRules order) _ (order-places order)
+    (λ all. alone-fits size (roomRules size room) (room-places size room) (omega (arith, written-is-short (orderAt order) (within-limits order all))))

@@ -8,10 +8,13 @@ use Rattle.order_out.specs.Write.{TaskColumns, writeAnswer}
 use Rattle.plan.specs.Plan.{planAnswer}
 use Rattle.inspect.specs.Rules.{checkAnswer}
 use Rattle.run.specs.Run.{runAnswer}
+use Rattle.text.specs.Read.{readTextAnswer}
+use Rattle.text_out.specs.Write.{writeTextAnswer}
 use Rattle.jefkantu.specs.Word.{TellsAnswer}
 use Rattle.jefkantu.specs.Surface.{ReadsOrder, WritesColumns}
 use Rattle.jefkantu.specs.Builds.{PlansBuild, ChecksBuild}
 use Rattle.jefkantu.specs.Runs.{RunsScript}
+use Rattle.jefkantu.specs.Texts.{ReadsForm, WritesForm}
 
 -- "the statement leaves one possible number, place, count and content of the caller's memory"
 unfoldable pub ReadUnique : Type 0
@@ -35,6 +38,15 @@ unfoldable pub RunUnique : Type 0
 RunUnique = (order build script output : List ℕ) (word other : ℕ) (after others : List ℕ) →
     RunsScript order build script output word after → RunsScript order build script output other others → (word ≡ other) × (after ≡ others)
 
+unfoldable pub ReadFormUnique : Type 0
+ReadFormUnique = (processors : ℕ) (text output : List ℕ) (word other : ℕ) (after others : List ℕ) →
+    ReadsForm processors text output word after → ReadsForm processors text output other others →
+    (word ≡ other) × (after ≡ others)
+
+unfoldable pub WriteFormUnique : Type 0
+WriteFormUnique = (order output : List ℕ) (word other : ℕ) (after others : List ℕ) → WritesForm order output word after → WritesForm order output other others →
+    (word ≡ other) × (after ≡ others)
+
 -- "Every answer has a number, a place and a count": all three come out of the word, whatever the input
 unfoldable pub ReadTells : Type 0
 ReadTells = (order numbers : List ℕ) (word : ℕ) (after : List ℕ) → ReadsOrder order numbers word after → TellsAnswer word (readOrder order .answer)
@@ -52,3 +64,10 @@ CheckTells = (order build : List ℕ) (word : ℕ) → ChecksBuild order build w
 unfoldable pub RunTells : Type 0
 RunTells = (order build script output : List ℕ) (word : ℕ) (after : List ℕ) →
     RunsScript order build script output word after → TellsAnswer word (runAnswer order build script (length output))
+
+unfoldable pub ReadFormTells : Type 0
+ReadFormTells = (processors : ℕ) (text output : List ℕ) (word : ℕ) (after : List ℕ) →
+    ReadsForm processors text output word after → TellsAnswer word (readTextAnswer processors text (length output))
+
+unfoldable pub WriteFormTells : Type 0
+WriteFormTells = (order output : List ℕ) (word : ℕ) (after : List ℕ) → WritesForm order output word after → TellsAnswer word (writeTextAnswer order (length output))

@@ -2,4 +2,5 @@ pub mod Word
 pub mod Surface
 pub mod Builds
 pub mod Runs
+pub mod Texts
 pub mod Claims

@@ -7,6 +7,7 @@ ghost use Rattle.jefkantu.specs.Word.{answerWord};
 ghost use Rattle.jefkantu.specs.Surface.{orderNumbers, ReadsOrder, WritesColumns};
 ghost use Rattle.jefkantu.specs.Builds.{PlansBuild, ChecksBuild};
 ghost use Rattle.jefkantu.specs.Runs.{RunsScript};
+ghost use Rattle.jefkantu.specs.Texts.{ReadsForm, WritesForm};
 
 // "65,535 where none applies"
 const NO_PLACE: u64 = 65_535;
@@ -100,5 +101,23 @@ pub extern "C" fn jefkantu_run(order: &[u8], build: &[u8], script: &[u8], out: &
     ensures { λ r. ⌜ RunsScript (now (order .entry)) (now (build .entry)) (now (script .entry)) (now (out .entry)) r (now (out .exit)) ⌝ }
 {
     let answer = run::run(order, build, script, out);
+    answer_word(answer)
+}
+
+// Reads the order form's text beside M: the order's bytes into the front of the output.
+#[no_mangle]
+pub extern "C" fn jefkantu_read_text(processors: u32, text: &[u8], out: &mut [u8]) -> u64
+    ensures { λ r. ⌜ ReadsForm processors (now (text .entry)) (now (out .entry)) r (now (out .exit)) ⌝ }
+{
+    let answer = text::read_text(processors, text, out);
+    answer_word(answer)
+}
+
+// Writes the text of an order into the front of the output.
+#[no_mangle]
+pub extern "C" fn jefkantu_write_text(order: &[u8], out: &mut [u8]) -> u64
+    ensures { λ r. ⌜ WritesForm (now (order .entry)) (now (out .entry)) r (now (out .exit)) ⌝ }
+{
+    let answer = text_out::write_text(order, out);
     answer_word(answer)
 }
