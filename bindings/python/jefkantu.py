@@ -1,12 +1,12 @@
-"""The planner of camera boxes for Python: the five operations of the proved library libjefkantu.
+"""The planner of camera boxes for Python: the seven operations of the proved library libjefkantu.
 
 The library is libjefkantu.so in the directory JEFKANTU_LIB_DIR, or else beside this file, or else in the repository's
 target/python, where bindings/python/link writes it. This folder works wherever it is copied, with its causes.txt.
 
-Orders, builds and scripts are bytes; a refusal is raised as Refused. A number is a whole number or an error: nothing
-is cut, rounded or parsed on its way in. Where it fits 32 bits the library itself judges it; where it does not, or is
-no whole number, the error names its row and its field. The bytes of a call are copied first and its output is the
-call's own, so nothing that a call writes can overlap what it reads.
+Orders, builds and scripts are bytes, the text of an order form is bytes or a str; a refusal is raised as Refused. A
+number is a whole number or an error: nothing is cut, rounded or parsed on its way in. Where it fits 32 bits the library
+itself judges it; where it does not, or is no whole number, the error names its row and its field. The bytes of a call
+are copied first and its output is the call's own, so nothing that a call writes can overlap what it reads.
 """
 
 import ctypes
@@ -14,9 +14,10 @@ import operator
 import os
 from collections.abc import Mapping, Set
 from pathlib import Path
-from typing import Any, Iterable, List, NamedTuple, Optional
+from typing import Any, Iterable, List, NamedTuple, Optional, Union
 
 MOST_ORDER_BYTES = 291
+MOST_TEXT_BYTES = 960
 MOST_BUILD_BYTES = 195
 MOST_RECORDS = 1024
 
@@ -32,7 +33,7 @@ class Cause(NamedTuple):
     """A number of the document's table "What comes back"."""
 
     number: int
-    place: Optional[str]  # what its place counts: "task", "partition" or "record"
+    place: Optional[str]  # what its place counts: "task", "partition", "record" or "line"
     words: str
 
 
@@ -148,6 +149,24 @@ def write_columns(
     out = _output(ctypes.c_uint8, room)
     count = _count(_library.jefkantu_write_order(processors, *lent, out, len(out)))
     return bytes(out[:count])
+
+
+def read_text(processors: int, text: Union[str, bytes], room: int = MOST_ORDER_BYTES) -> bytes:
+    """Reads M and the text of an order form, and gives their order: 52, then line by line 50 and 51, then 3, 4, then
+    task by task 7 to 10; 12 if over room bytes. Text goes in as it was typed, a str as its UTF-8 bytes: none is skipped
+    or tidied. Read a file of it as bytes, for Python takes carriage returns out of what it reads as text."""
+    processors = _number("processors", processors, _COLUMN_BITS)
+    data = text.encode("utf-8", "surrogatepass") if isinstance(text, str) else text
+    out = _output(ctypes.c_uint8, room)
+    count = _count(_library.jefkantu_read_text(processors, *_lent("text", data), out, len(out)))
+    return bytes(out[:count])
+
+
+def write_text(order: bytes, room: int = MOST_TEXT_BYTES) -> str:
+    """Writes an order as text, its times with a point and two decimals: the order's 1 to 10; 12 if over room bytes."""
+    out = _output(ctypes.c_uint8, room)
+    count = _count(_library.jefkantu_write_text(*_lent("order", order), out, len(out)))
+    return bytes(out[:count]).decode("ascii")
 
 
 def plan(order: bytes, room: int = MOST_BUILD_BYTES) -> bytes:
@@ -286,6 +305,8 @@ def _load() -> ctypes.CDLL:
     arguments = {
         "read_order": [data, size, numbers],
         "write_order": [ctypes.c_uint32, *[column, size] * 4, out, size],
+        "read_text": [ctypes.c_uint32, data, size, out, size],
+        "write_text": [data, size, out, size],
         "plan": [data, size, out, size],
         "check": [data, size] * 2,
         "run": [*[data, size] * 3, column, size],

@@ -20,6 +20,7 @@ ROOT = Path(__file__).resolve().parent.parent.parent
 ORDER = bytes.fromhex("108180 040001400014000080 020001C0001A000080 020001C0001A000080")
 BUILD = bytes.fromhex("108182 0400 0210 0000000E 00200010 04000008")
 SAMPLE = Order(4, [Task(2, 10, 10, 4), Task(1, 14, 13, 4), Task(1, 14, 13, 4)])
+TEXT = "2;0.10;0.10;0.04\n1;0.14;0.13;0.04\n1;0.14;0.13;0.04\n"
 SCRIPT = jefkantu.write_script([Release(0, 1, 4), Release(1, 0, 4), Release(1, 2, 3)])
 
 
@@ -37,12 +38,19 @@ def column(word):
     return [] if word == "-" else [int(number) for number in word.split(",")]
 
 
+def typed_task(time):
+    """The task of a line with one time three times over."""
+    (task,) = jefkantu.read_order(jefkantu.read_text(4, f"1;{time};{time};{time}\n")).tasks
+    return task
+
+
 def calls(asked, words):
     """The calls that a line of bindings/refusals.txt stands for."""
     if asked == "order":
         order = data(words[0])
         return [
             lambda: jefkantu.read_order(order),
+            lambda: jefkantu.write_text(order, 0),
             lambda: jefkantu.plan(order, 0),
             lambda: jefkantu.check(order, b""),
             lambda: jefkantu.run(order, b"", b"\0", 0),
@@ -52,6 +60,10 @@ def calls(asked, words):
     if asked == "write":
         columns = [column(word) for word in words[1:5]]
         return [lambda: jefkantu.write_columns(int(words[0]), *columns, int(words[5]))]
+    if asked == "read_text":
+        return [lambda: jefkantu.read_text(int(words[0]), data(words[1]), int(words[2]))]
+    if asked == "write_text":
+        return [lambda: jefkantu.write_text(data(words[0]), int(words[1]))]
     if asked == "build":
         order, build = data(words[0]), data(words[1])
         return [lambda: jefkantu.check(order, build), lambda: jefkantu.run(order, build, b"\0", 0)]
@@ -99,6 +111,59 @@ class Sample(unittest.TestCase):
         with self.assertRaises(Refused) as caught:
             jefkantu.run(ORDER, BUILD, jefkantu.write_script(releases))
         self.assertEqual(caught.exception.number, 40)
+
+
+class Text(unittest.TestCase):
+    """The text of the order form: as it was typed, or refused at its line."""
+
+    def refused(self, number, line, text):
+        with self.subTest(text=text[:40]), self.assertRaises(Refused) as caught:
+            jefkantu.read_text(4, text)
+        self.assertEqual((caught.exception.number, caught.exception.place), (number, line))
+
+    def test_text_is_read_and_written_back(self):
+        for typed in [TEXT, TEXT.encode(), bytearray(TEXT.encode()), memoryview(TEXT.encode())]:
+            self.assertEqual(jefkantu.read_text(4, typed), ORDER)
+        self.assertEqual(jefkantu.read_text(Whole(4), TEXT), ORDER)
+        self.assertEqual(jefkantu.write_text(ORDER), TEXT)
+
+    def test_exact_room(self):
+        self.assertEqual(jefkantu.read_text(4, TEXT, len(ORDER)), ORDER)
+        self.assertEqual(jefkantu.write_text(ORDER, len(TEXT)), TEXT)
+
+    def test_longest_text_is_written_and_read_back(self):
+        order = jefkantu.write_order(Order(64, [Task(64, 1_000_000, 1_000_000, 1_000_000)] * 32))
+        longest = jefkantu.write_text(order)
+        self.assertEqual(longest, "64;10000.00;10000.00;10000.00\n" * 32)
+        self.assertEqual(len(longest), jefkantu.MOST_TEXT_BYTES)
+        self.assertEqual(jefkantu.read_text(64, longest), order)
+        self.refused(52, None, longest + "\n")
+        self.refused(52, None, longest + "6")
+
+    def test_times_are_as_typed(self):
+        for typed, ticks in [("7,5", 750), ("7.50", 750), ("75", 7_500), ("0.01", 1), ("0,1", 10), ("007,05", 705)]:
+            self.assertEqual(typed_task(typed), Task(1, ticks, ticks, ticks))
+
+    def test_nothing_is_tidied(self):
+        typed = ["7,5 ", "7,505", ",5", "7,", "+7", "7;5", "7,5\r", "", "7_5", "7\0"]
+        for time in [*typed, "É", "\uff17", "\u0667", "7\xa0", "\ud800"]:
+            self.refused(50, 1, f"1;75;75;75\n1;75;75;{time}\n")
+        for text in ["1;75;75;75", "\n1;75;75;75\n", "\ufeff1;75;75;75\n", "1;75;75;75\u2028", b"1;75;75;7\xff\n"]:
+            self.refused(50, 0, text)
+
+    def test_a_number_is_judged_by_its_value(self):
+        zeros = "0" * 1_000_000
+        self.assertEqual(len(jefkantu.read_text(4, f"{zeros}1;{zeros}75;75;75\n")), 12)
+        self.refused(51, 0, f"1;1{zeros};75;75\n")
+        self.refused(51, 0, "1;10485.76;75;75\n")
+        self.refused(8, 0, "1;10485.75;75;75\n")
+
+    def test_no_line_is_no_task(self):
+        self.refused(4, None, "")
+
+    def test_a_refusal_tells_its_line(self):
+        with self.assertRaisesRegex(Refused, "^refused 50 at line 1: not m;T;D;C and a line feed: "):
+            jefkantu.read_text(4, "1;75;75;75\n1;75;75;7,505\n")
 
 
 class Refusals(unittest.TestCase):
@@ -174,6 +239,7 @@ class Numbers(unittest.TestCase):
     def test_processors(self):
         for value, error in UNFIT:
             self.refused(error, "processors", lambda: jefkantu.write_order(Order(value, [Task(1, 10, 10, 4)])))
+            self.refused(error, "processors", lambda: jefkantu.read_text(value, "7;5\n"))
 
     def test_every_column(self):
         for at, field in enumerate(Task._fields):
@@ -196,6 +262,8 @@ class Numbers(unittest.TestCase):
 
     def test_room(self):
         for value, error in UNFIT:
+            self.refused(error, "room", lambda: jefkantu.read_text(4, TEXT, value))
+            self.refused(error, "room", lambda: jefkantu.write_text(ORDER, value))
             self.refused(error, "room", lambda: jefkantu.plan(ORDER, value))
             self.refused(error, "room", lambda: jefkantu.run(ORDER, BUILD, SCRIPT, value))
             self.refused(error, "room", lambda: jefkantu.write_columns(4, [1], [9], [9], [9], value))
@@ -215,6 +283,8 @@ class Numbers(unittest.TestCase):
             with self.assertRaises(Refused) as caught:
                 jefkantu.write_order(Order(4, [row]))
             self.assertEqual((caught.exception.number, caught.exception.place), (number, 0))
+        with self.assertRaisesRegex(Refused, "^refused 3: "):
+            jefkantu.read_text(2**32 - 1, TEXT)
 
     def test_whole_numbers_of_other_kinds_and_generators(self):
         rows = [[Whole(number) for number in task] for task in SAMPLE.tasks]
@@ -241,6 +311,9 @@ class Buffers(unittest.TestCase):
                 jefkantu.plan(other)
             with self.subTest(other=other), self.assertRaisesRegex(TypeError, "^script: "):
                 jefkantu.run(ORDER, BUILD, other)
+        for other in [30, None, list(ORDER), [TEXT], array.array("H", ORDER)]:
+            with self.subTest(other=other), self.assertRaisesRegex(TypeError, "^text: "):
+                jefkantu.read_text(4, other)
 
     def test_one_buffer_may_hold_them_all(self):
         whole = bytearray(ORDER + BUILD + SCRIPT)
@@ -254,7 +327,7 @@ class Buffers(unittest.TestCase):
 class Repository(unittest.TestCase):
     def test_limits_are_those_of_the_header(self):
         header = dict(re.findall(r"#define JEFKANTU_(\w+) (\d+)", text("include/jefkantu.h")))
-        for name in ["MOST_ORDER_BYTES", "MOST_BUILD_BYTES", "MOST_RECORDS"]:
+        for name in ["MOST_ORDER_BYTES", "MOST_TEXT_BYTES", "MOST_BUILD_BYTES", "MOST_RECORDS"]:
             self.assertEqual(getattr(jefkantu, name), int(header[name]))
 
     def test_the_formats_page_has_every_cause_and_the_sample(self):
@@ -266,6 +339,21 @@ class Repository(unittest.TestCase):
         for byte, bits in lines:
             self.assertEqual(int(byte, 16), int(bits.replace("|", ""), 2))
         self.assertEqual(bytes.fromhex("".join(byte for byte, _ in lines)), ORDER + BUILD + SCRIPT)
+
+    def test_the_formats_page_reads_times_as_the_library_does(self):
+        page = text("docs/FORMATS.md")
+        self.assertIn(f"```text\n{TEXT}```\n", page)
+        rows = re.findall(r"^\| (`.*`).* \| ([\d,]+) ticks? \|$", page, re.MULTILINE)
+        times = [(time, int(ticks.replace(",", ""))) for typed, ticks in rows for time in re.findall("`(.*?)`", typed)]
+        self.assertEqual(len(times), 7)
+        for time, ticks in times:
+            self.assertEqual(typed_task(time), Task(1, ticks, ticks, ticks))
+        rows = re.findall(r"^\| (`.*`).* \| refused (5\d) \|$", page, re.MULTILINE)
+        refused = [(time, number) for typed, number in rows for time in re.findall("`(.*?)`", typed)]
+        self.assertEqual(len(refused), 8)
+        for time, number in refused:
+            with self.subTest(time=time), self.assertRaisesRegex(Refused, f"^refused {number} at line 0: "):
+                jefkantu.read_text(4, f"1;75;75;{time}\n")
 
     def test_a_copied_folder_works(self):
         here = Path(__file__).resolve().parent

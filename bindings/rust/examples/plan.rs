@@ -1,6 +1,7 @@
-//! Plans the sample order, or the order in the file that is named, and prints its build as the printer does.
+//! Plans the sample order, or the order in the file that is named, or the text in it with M named before, and prints its
+//! build as the printer does: `plan`, `plan ORDER` or `plan M TEXT`.
 
-use jefkantu::{plan, write_order, Build, Order};
+use jefkantu::{plan, read_text, write_order, Build, Order};
 use std::error::Error;
 use std::process::ExitCode;
 
@@ -12,9 +13,11 @@ fn sample() -> Result<Vec<u8>, Box<dyn Error>> {
 
 /// The lines of the order's build.
 fn lines() -> Result<String, Box<dyn Error>> {
-    let order = match std::env::args_os().nth(1) {
-        Some(file) => std::fs::read(file)?,
-        None => sample()?,
+    let arguments: Vec<_> = std::env::args_os().skip(1).collect();
+    let order = match &arguments[..] {
+        [] => sample()?,
+        [file] => std::fs::read(file)?,
+        [m, file, ..] => read_text(m.to_string_lossy().parse::<u64>()?, std::fs::read(file)?)?,
     };
     let build = plan(&order)?;
     Ok(Build::read(&order, &build)?.to_string())

@@ -1,4 +1,4 @@
-//! The planner of camera boxes for Rust: the five operations of the proved library libjefkantu.a.
+//! The planner of camera boxes for Rust: the seven operations of the proved library libjefkantu.a.
 //!
 //! ```
 //! use jefkantu::{plan, run, write_order, write_script, Build, Order, Release};
@@ -13,6 +13,19 @@
 //! # Ok::<(), Box<dyn std::error::Error>>(())
 //! ```
 //!
+//! The text of an order form goes in as it was typed, and comes out with a point and two decimals:
+//!
+//! ```
+//! use jefkantu::{read_text, write_text};
+//!
+//! let order = read_text(4, "2;7,5;7.5;0.04\n")?;
+//! assert_eq!(write_text(&order)?, "2;7.50;7.50;0.04\n");
+//!
+//! let refused = read_text(4, "2;7,5;7.5;0.04\n2;7,5 ;7.5;0.04\n").unwrap_err();
+//! assert!(refused.to_string().starts_with("refused 50 at line 1: not m;T;D;C"));
+//! # Ok::<(), Box<dyn std::error::Error>>(())
+//! ```
+//!
 //! Numbers come in whole: `of` takes whole numbers of any width, signed or not, and refuses what 32 bits or the field do
 //! not hold; `as u32` would cut it. The borrows keep what a call writes apart from what it reads.
 #![deny(missing_docs, unsafe_code)]
@@ -24,12 +37,14 @@ mod refusal;
 mod script;
 #[allow(unsafe_code)]
 mod surface;
+mod text;
 
 pub use build::{Build, Member, Partition};
 pub use number::{column, NotHeld, Whole};
 pub use order::{Columns, Order, Task};
 pub use refusal::{Cause, Refusal};
 pub use script::{write_script, Release};
+pub use text::{read_text, read_text_into, write_text, write_text_into, NotRead};
 
 use refusal::answer;
 
@@ -76,7 +91,7 @@ pub fn plan(order: &[u8]) -> Result<Vec<u8>, Refusal> {
     filled(Build::MOST_BYTES, |out| plan_into(order, out))
 }
 
-/// Plans an order into the front of the caller's buffer, and answers the build's duration: 1 to 10, 11, then 12.
+/// Plans an order into the front of the caller's buffer, and answers the build's length: 1 to 10, 11, then 12.
 pub fn plan_into(order: &[u8], out: &mut [u8]) -> Result<usize, Refusal> {
     answer(surface::plan(order, out))
 }
@@ -103,10 +118,10 @@ pub fn run_into(
 }
 
 /// What a call writes into the front of a buffer with enough room.
-fn filled<T: Clone + Default>(
+fn filled<T: Clone + Default, E>(
     room: usize,
-    call: impl FnOnce(&mut [T]) -> Result<usize, Refusal>,
-) -> Result<Vec<T>, Refusal> {
+    call: impl FnOnce(&mut [T]) -> Result<usize, E>,
+) -> Result<Vec<T>, E> {
     let mut out = vec![T::default(); room];
     let count = call(&mut out)?;
     out.truncate(count);

@@ -45,6 +45,9 @@ impl Order {
     /// The length of the longest order, in bytes.
     pub const MOST_BYTES: usize = 291;
 
+    /// The length of the longest text that is written, in bytes.
+    pub const MOST_TEXT_BYTES: usize = 960;
+
     /// An order read, as numbers: M, n, then m, T, D and C of 32 tasks.
     pub(crate) const NUMBERS: usize = 130;
 

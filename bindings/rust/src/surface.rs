@@ -22,6 +22,15 @@ extern "C" {
         out: *mut u8,
         out_len: usize,
     ) -> u64;
+    fn jefkantu_read_text(
+        processors: u32,
+        text: *const u8,
+        text_len: usize,
+        out: *mut u8,
+        out_len: usize,
+    ) -> u64;
+    fn jefkantu_write_text(order: *const u8, order_len: usize, out: *mut u8, out_len: usize)
+        -> u64;
     fn jefkantu_plan(order: *const u8, order_len: usize, out: *mut u8, out_len: usize) -> u64;
     fn jefkantu_check(
         order: *const u8,
@@ -64,6 +73,18 @@ pub fn write_order(processors: u32, columns: &Columns, out: &mut [u8]) -> u64 {
             out.len(),
         )
     }
+}
+
+pub fn read_text(processors: u32, text: &[u8], out: &mut [u8]) -> u64 {
+    // SAFETY: each pointer is a live reference's, with its own length; the `&mut` overlaps nothing.
+    unsafe {
+        jefkantu_read_text(processors, text.as_ptr(), text.len(), out.as_mut_ptr(), out.len())
+    }
+}
+
+pub fn write_text(order: &[u8], out: &mut [u8]) -> u64 {
+    // SAFETY: each pointer is a live reference's, with its own length; the `&mut` overlaps nothing.
+    unsafe { jefkantu_write_text(order.as_ptr(), order.len(), out.as_mut_ptr(), out.len()) }
 }
 
 pub fn plan(order: &[u8], out: &mut [u8]) -> u64 {

@@ -1,6 +1,7 @@
 //! Numbers that do not fit: each is refused with its row and its field, and none is cut.
 
-use jefkantu::{column, write_order, write_script, NotHeld, Order, Release, Task, Whole};
+use jefkantu::{column, read_text, write_order, write_script};
+use jefkantu::{NotHeld, NotRead, Order, Release, Task, Whole};
 
 /// 2^32 + 75
 const LARGE: u64 = (1 << 32) + 75;
@@ -19,10 +20,19 @@ fn told<T: std::fmt::Debug>(
     assert_eq!((it.row, it.field, it.number.as_str()), (row, field, number));
 }
 
+/// M beside a text that is refused too: the number is told first, since it never gets there.
+fn beside_text(number: impl Whole) -> Result<Vec<u8>, NotHeld> {
+    match read_text(number, "7;5\n") {
+        Err(NotRead::NotHeld(it)) => Err(it),
+        other => panic!("{other:?}"),
+    }
+}
+
 /// A number in each place where one comes in.
 fn refused_everywhere<N: Whole + From<u8>>(number: N) {
     let (four, text) = (N::from(4), number.to_string());
     told(Order::of(number, [[four; 4]]), None, "processors", &text);
+    told(beside_text(number), None, "processors", &text);
     for (at, field) in TASK_FIELDS.into_iter().enumerate() {
         let mut row = [four; 4];
         row[at] = number;
@@ -72,6 +82,7 @@ fn numbers_that_fit_are_judged_by_the_library() {
     }
     let refusal = write_order(&Order::of(u32::MAX, [[1, 10, 10, 10]]).unwrap()).unwrap_err();
     assert_eq!((refusal.number, refusal.place), (3, None));
+    assert_eq!(read_text(u32::MAX, "1;1;1;1\n"), Err(NotRead::Refused(refusal)));
 }
 
 #[test]
@@ -95,6 +106,8 @@ fn the_words_name_row_field_and_number() {
     let over = Release { tick: 0, task: 32, duration: 1 };
     let told = write_script(&[over]).unwrap_err().to_string();
     assert_eq!(told, "record 0, task: 32 is not from 0 to 31");
+    let told = read_text(LARGE, "").unwrap_err().to_string();
+    assert_eq!(told, "order, processors: 4294967371 is not from 0 to 4294967295");
     assert_eq!(
         Task::of(1, 1, 1, LARGE).unwrap_err().to_string(),
         "task, run: 4294967371 is not from 0 to 4294967295"

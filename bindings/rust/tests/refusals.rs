@@ -1,7 +1,7 @@
 //! Each line of bindings/refusals.txt: its number, its place, and the caller's buffer as it was.
 
-use jefkantu::{check, plan_into, read_order, run_into, write_columns_into};
-use jefkantu::{Cause, Columns, Refusal};
+use jefkantu::{check, plan_into, read_order, read_text_into, run_into, write_columns_into};
+use jefkantu::{write_text_into, Cause, Columns, NotRead, Refusal};
 use std::collections::BTreeSet;
 
 const ORDER: &str = "108180040001400014000080020001c0001a000080020001c0001a000080";
@@ -60,14 +60,30 @@ fn written(processors: &str, columns: [&str; 4], room: &str) -> Refusal {
     kept(0xA5, room, |out| write_columns_into(processors, &columns, out))
 }
 
+fn text_read(processors: &str, text: &[u8], room: &str) -> Refusal {
+    let processors: u32 = processors.parse().expect("a number");
+    kept(0xA5, room, |out| match read_text_into(processors, text, out) {
+        Err(NotRead::NotHeld(it)) => panic!("{it}"),
+        Err(NotRead::Refused(refusal)) => Err(refusal),
+        Ok(count) => Ok(count),
+    })
+}
+
+fn text_written(order: &[u8], room: &str) -> Refusal {
+    kept(0xA5, room, |out| write_text_into(order, out))
+}
+
 /// What each operation that is asked answers.
 fn refusals(asked: &[&str]) -> Vec<Refusal> {
     match *asked {
         ["order", order] => {
             let order = bytes(order);
             let read = read_order(&order).expect_err("a refusal");
-            vec![read, planned(&order, "0"), checked(&order, &[]), ran(&order, &[], &[0], "0")]
+            let (text, planned) = (text_written(&order, "0"), planned(&order, "0"));
+            vec![read, text, planned, checked(&order, &[]), ran(&order, &[], &[0], "0")]
         }
+        ["read_text", processors, text, room] => vec![text_read(processors, &bytes(text), room)],
+        ["write_text", order, room] => vec![text_written(&bytes(order), room)],
         ["plan", order, room] => vec![planned(&bytes(order), room)],
         ["write", processors, m, t, d, c, room] => vec![written(processors, [m, t, d, c], room)],
         ["build", order, build] => {

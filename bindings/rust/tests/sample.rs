@@ -120,6 +120,7 @@ fn limits_are_those_of_the_header() {
     let header = include_str!("../../../include/jefkantu.h");
     for (name, value) in [
         ("ORDER_BYTES", Order::MOST_BYTES),
+        ("TEXT_BYTES", Order::MOST_TEXT_BYTES),
         ("BUILD_BYTES", Build::MOST_BYTES),
         ("RECORDS", Release::MOST_RECORDS),
     ] {
