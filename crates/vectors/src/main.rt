@@ -1,4 +1,6 @@
 // Runs cases that the second program wrote: a line each with the answer, and all that the output then holds.
+use show::end_line;
+use show::put;
 ghost use Prim.Native.Nat.{_≤_};
 ghost use Rattle.io.specs.Counts.{Counts};
 
@@ -7,8 +9,10 @@ const BYTE: u8 = 0xA5;
 
 const WORD: u32 = 0xA5A5_A5A5;
 
-// Room for orders, builds and scripts that are too long by some, and for outputs that are longer than needed.
+// Room for orders, builds, texts and scripts that are too long by some, and for outputs that are longer than needed.
 const MOST_BYTES: usize = 512;
+
+const MOST_TEXT: usize = 2_048;
 
 const MOST_ROWS: usize = 64;
 
@@ -19,11 +23,6 @@ const MOST_TICKS: usize = 1_280;
 // The most cases in one input.
 const MOST_CASES: u32 = 65_536;
 
-fn put(number: u64) {
-    io::write_all(1, b" ");
-    io::print_decimal(1, number);
-}
-
 fn put_byte(byte: u8) {
     io::write_all(1, b" ");
     io::print_hex(1, byte as u64, 2);
@@ -32,10 +31,6 @@ fn put_byte(byte: u8) {
 fn put_word(word: u32) {
     io::write_all(1, b" ");
     io::print_hex(1, word as u64, 8);
-}
-
-fn end_line() {
-    io::write_all(1, b"\n");
 }
 
 // Number, place and count out of the one word.
@@ -208,6 +203,35 @@ fn run_case() {
     );
 }
 
+fn read_text_into(processors: u32, text: &[u8], out: &mut [u8]) {
+    let word = jefkantu::jefkantu_read_text(processors, text, out);
+    show_answer(b"read_text", word);
+    show_bytes(out);
+}
+
+fn read_text_case() {
+    let processors = next_word();
+    let mut text = [0u8; MOST_TEXT];
+    let size = next_bytes(&mut text);
+    let mut out = [BYTE; MOST_BYTES];
+    let room = next_room(&out);
+    read_text_into(processors, &text[..size], &mut out[..room]);
+}
+
+fn write_text_into(order: &[u8], out: &mut [u8]) {
+    let word = jefkantu::jefkantu_write_text(order, out);
+    show_answer(b"write_text", word);
+    show_bytes(out);
+}
+
+fn write_text_case() {
+    let mut order = [0u8; MOST_BYTES];
+    let size = next_bytes(&mut order);
+    let mut out = [BYTE; MOST_TEXT];
+    let room = next_room(&out);
+    write_text_into(&order[..size], &mut out[..room]);
+}
+
 // Whether there was a case; its first byte names the operation.
 fn next_case() -> bool {
     let operation = next_byte();
@@ -217,6 +241,8 @@ fn next_case() -> bool {
         3 => plan_case(),
         4 => check_case(),
         5 => run_case(),
+        6 => read_text_case(),
+        7 => write_text_case(),
         _ => return false,
     }
     true

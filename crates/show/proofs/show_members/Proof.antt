@@ -1,7 +1,7 @@
 use borrow.Author.Needs.{needs}
 use Prim.Native.Nat.{_≤_, _-_}
-use Rattle.printer.proofs.show_members.Statement.{statement}
-use Rattle.printer.proofs.show_members.Tie as tie
+use Rattle.show.proofs.show_members.Statement.{statement}
+use Rattle.show.proofs.show_members.Tie as tie
 
 abbrev Inv-loop : tie.InvT-loop
 Inv-loop tasks members i₀ i = (i ≤ tasks) × (tasks ≤ 32)

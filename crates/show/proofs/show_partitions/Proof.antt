@@ -1,7 +1,7 @@
 use borrow.Author.Needs.{needs}
 use Prim.Native.Nat.{_≤_, _-_}
-use Rattle.printer.proofs.show_partitions.Statement.{statement}
-use Rattle.printer.proofs.show_partitions.Tie as tie
+use Rattle.show.proofs.show_partitions.Statement.{statement}
+use Rattle.show.proofs.show_partitions.Tie as tie
 
 abbrev Inv-loop : tie.InvT-loop
 Inv-loop partitions places i₀ i = (i ≤ partitions) × (partitions ≤ 32)
