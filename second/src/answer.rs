@@ -71,6 +71,9 @@ pub enum Cause {
     JobLength = 44,
     Gap = 45,
     Places = 46,
+    LineShape = 50,
+    LineNumber = 51,
+    LineCount = 52,
 }
 
 /// A cause, and where it was found.
@@ -86,7 +89,7 @@ impl Cause {
         Refusal { cause: self, place: None }
     }
 
-    /// This cause at a task, partition or record.
+    /// This cause at a task, partition, record or line.
     pub fn at(self, place: usize) -> Refusal {
         Refusal { cause: self, place: Some(place) }
     }

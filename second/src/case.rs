@@ -5,7 +5,7 @@ use crate::generate::random::Random;
 use crate::order::Order;
 use crate::program::Program;
 
-/// The five operations.
+/// The operations.
 #[derive(Clone, Copy, Debug, PartialEq, Eq, PartialOrd, Ord)]
 pub enum Operation {
     Read,
@@ -13,14 +13,35 @@ pub enum Operation {
     Plan,
     Check,
     Run,
+    ReadText,
+    WriteText,
 }
 
 impl Operation {
-    pub const ALL: [Operation; 5] =
-        [Operation::Read, Operation::Write, Operation::Plan, Operation::Check, Operation::Run];
+    /// The largest number that there is.
+    pub const MOST: u16 = 52;
+
+    /// Operations that are drawn and counted together, so that each group keeps its cases.
+    const GROUPS: [&[Operation]; 3] = [
+        &[Operation::Read, Operation::Write, Operation::Plan, Operation::Check, Operation::Run],
+        &[Operation::ReadText],
+        &[Operation::WriteText],
+    ];
+
+    pub fn all() -> Vec<Operation> {
+        Operation::GROUPS.concat()
+    }
+
+    /// The groups that some operations make.
+    pub fn groups(of: &[Operation]) -> Vec<Vec<Operation>> {
+        let among = |operation: &Operation| of.contains(operation);
+        let groups = Operation::GROUPS.into_iter();
+        let groups = groups.map(|group| group.iter().copied().filter(among).collect());
+        groups.filter(|group: &Vec<Operation>| !group.is_empty()).collect()
+    }
 
     pub fn name(self) -> &'static str {
-        ["read", "write", "plan", "check", "run"][self as usize]
+        ["read", "write", "plan", "check", "run", "read_text", "write_text"][self as usize]
     }
 
     /// Whether the definition lists a number among this operation's answers.
@@ -31,6 +52,8 @@ impl Operation {
             Operation::Plan => matches!(number, 0..=12),
             Operation::Check => matches!(number, 0..=10 | 20..=30),
             Operation::Run => matches!(number, 0..=10 | 20..=30 | 40..=46),
+            Operation::ReadText => matches!(number, 0 | 3 | 4 | 7..=10 | 12 | 50..=52),
+            Operation::WriteText => matches!(number, 0..=10 | 12),
         }
     }
 }
@@ -43,6 +66,8 @@ pub enum Case {
     Plan { order: Vec<u8>, room: usize },
     Check { order: Vec<u8>, build: Vec<u8> },
     Run { order: Vec<u8>, build: Vec<u8>, script: Vec<u8>, room: usize },
+    ReadText { processors: u32, text: Vec<u8>, room: usize },
+    WriteText { order: Vec<u8>, room: usize },
 }
 
 /// An answer, and the memory around and in the output afterwards.
@@ -85,6 +110,8 @@ impl Case {
             Case::Plan { .. } => Operation::Plan,
             Case::Check { .. } => Operation::Check,
             Case::Run { .. } => Operation::Run,
+            Case::ReadText { .. } => Operation::ReadText,
+            Case::WriteText { .. } => Operation::WriteText,
         }
     }
 
@@ -116,8 +143,25 @@ impl Case {
                 words = memory(*room, fill, |word| word as u32);
                 program.run(order, build, script, inside(&mut words))
             }
+            Case::ReadText { processors, text, room } => {
+                bytes = memory(*room, fill, |word| word as u8);
+                program.read_text(*processors, text, inside(&mut bytes))
+            }
+            Case::WriteText { order, room } => {
+                bytes = memory(*room, fill, |word| word as u8);
+                program.write_text(order, inside(&mut bytes))
+            }
         };
         Outcome { answer, bytes, words }
+    }
+
+    /// The case that reads back what was written as text, and must give this order.
+    pub fn read_back(&self, outcome: &Outcome) -> Option<(Case, &[u8])> {
+        let Case::WriteText { order, .. } = self else { return None };
+        let processors = Order::read(order).ok()?.processors;
+        let text = outcome.output_bytes()[..outcome.answer.count as usize].to_vec();
+        let read = Case::ReadText { processors, text, room: order.len() };
+        (outcome.answer.number == 0).then_some((read, order))
     }
 
     /// The case and its outcome as a line of text, as the README says.
@@ -128,19 +172,24 @@ impl Case {
                 let [m, t, d, c] = columns.each_ref().map(|column| hex_words(column));
                 format!("{processors} {m} {t} {d} {c} {room}")
             }
-            Case::Plan { order, room } => format!("{} {room}", hex(order)),
+            Case::Plan { order, room } | Case::WriteText { order, room } => {
+                format!("{} {room}", hex(order))
+            }
             Case::Check { order, build } => format!("{} {}", hex(order), hex(build)),
             Case::Run { order, build, script, room } => {
                 format!("{} {} {} {room}", hex(order), hex(build), hex(script))
+            }
+            Case::ReadText { processors, text, room } => {
+                format!("{processors} {} {room}", hex(text))
             }
         };
         let Answer { number, place, count } = outcome.answer;
         let counted = count as usize;
         let written = match self {
             Case::Read { .. } if number == 0 => hex_words(outcome.output_words()),
-            Case::Write { .. } | Case::Plan { .. } => hex(&outcome.output_bytes()[..counted]),
+            Case::Read { .. } | Case::Check { .. } => hex(&[]),
             Case::Run { .. } => hex_words(&outcome.output_words()[..counted]),
-            _ => hex(&[]),
+            _ => hex(&outcome.output_bytes()[..counted]),
         };
         let name = self.operation().name();
         format!("{name} {given} {number} {place} {count} {written}")

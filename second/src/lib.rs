@@ -1,4 +1,4 @@
-//! The second program: the five operations of the definition, written from its text alone.
+//! The second program: the operations of the definition, written from its text alone.
 //!
 //! Every operation answers a number, a place and a count.
 //! A refusal leaves the output as it was; a success changes only the counted front.
@@ -21,6 +21,7 @@ pub mod response;
 pub mod script;
 pub mod speed;
 pub mod tally;
+pub mod text;
 pub mod vectors;
 
 use answer::{Answer, Cause, Refusal};
@@ -68,6 +69,18 @@ fn try_run(order: &[u8], build: &[u8], script: &[u8], out: &mut [u32]) -> Result
     let (order, build) = check::check(order, build)?;
     let records = script::read(script, &order, out.len())?;
     put(&machine::finish_ticks(&build, &records), out, Cause::Places)
+}
+
+/// Reads the order form's text, with M beside it, into an order.
+pub fn read_text(processors: u32, text: &[u8], out: &mut [u8]) -> Answer {
+    let order = text::read(processors, text);
+    Answer::from(order.and_then(|order| put(&order.bytes(), out, Cause::Output)))
+}
+
+/// Writes the text of an order.
+pub fn write_text(order: &[u8], out: &mut [u8]) -> Answer {
+    let text = Order::read(order).map(|order| text::write(&order));
+    Answer::from(text.and_then(|text| put(&text, out, Cause::Output)))
 }
 
 /// Replaces the front of the output; refused where the output is too short for it.

@@ -35,10 +35,22 @@ surface! {
         order: *const u8, order_len: usize, build: *const u8, build_len: usize,
         script: *const u8, script_len: usize, out: *mut u32, out_len: usize,
     );
+    "text" fn jefkantu_read_text(
+        procs: u32, text: *const u8, text_len: usize, out: *mut u8, out_len: usize,
+    );
+    "text" fn jefkantu_write_text(
+        order: *const u8, order_len: usize, out: *mut u8, out_len: usize,
+    );
 }
 
 #[cfg_attr(
-    any(feature = "read_write", feature = "plan", feature = "check", feature = "run"),
+    any(
+        feature = "read_write",
+        feature = "plan",
+        feature = "check",
+        feature = "run",
+        feature = "text"
+    ),
     link(name = "jefkantu", kind = "static")
 )]
 extern "C" {}
@@ -75,5 +87,16 @@ impl Program for Library {
         let (o, b, s) = (lent(order), lent(build), lent(script));
         let (to, room) = (out.as_mut_ptr(), out.len());
         Answer::unpack(unsafe { jefkantu_run(o.0, o.1, b.0, b.1, s.0, s.1, to, room) })
+    }
+
+    fn read_text(&self, processors: u32, text: &[u8], out: &mut [u8]) -> Answer {
+        let (from, length) = (text.as_ptr(), text.len());
+        let (to, room) = (out.as_mut_ptr(), out.len());
+        Answer::unpack(unsafe { jefkantu_read_text(processors, from, length, to, room) })
+    }
+
+    fn write_text(&self, order: &[u8], out: &mut [u8]) -> Answer {
+        let (to, room) = (out.as_mut_ptr(), out.len());
+        Answer::unpack(unsafe { jefkantu_write_text(order.as_ptr(), order.len(), to, room) })
     }
 }

@@ -42,6 +42,8 @@ impl Order {
     pub const HEADER: Layout<4> = Layout([4, 7, 6, 7]);
     /// m, T, D, C, spare.
     pub const TASK: Layout<5> = Layout([7, 20, 20, 20, 5]);
+    /// The longest order, in bytes.
+    pub const MOST: usize = Self::HEADER.bytes() + 32 * Self::TASK.bytes();
     /// M, n and 32 times (m, T, D, C).
     pub const NUMBERS: usize = 130;
 

@@ -1,4 +1,4 @@
-//! The five operations as one thing that can be compared with another.
+//! The operations as one thing that can be compared with another.
 
 use crate::answer::Answer;
 use crate::order::Order;
@@ -10,6 +10,8 @@ pub trait Program {
     fn plan(&self, order: &[u8], out: &mut [u8]) -> Answer;
     fn check(&self, order: &[u8], build: &[u8]) -> Answer;
     fn run(&self, order: &[u8], build: &[u8], script: &[u8], out: &mut [u32]) -> Answer;
+    fn read_text(&self, processors: u32, text: &[u8], out: &mut [u8]) -> Answer;
+    fn write_text(&self, order: &[u8], out: &mut [u8]) -> Answer;
 }
 
 /// This one.
@@ -34,5 +36,13 @@ impl Program for Second {
 
     fn run(&self, order: &[u8], build: &[u8], script: &[u8], out: &mut [u32]) -> Answer {
         crate::run(order, build, script, out)
+    }
+
+    fn read_text(&self, processors: u32, text: &[u8], out: &mut [u8]) -> Answer {
+        crate::read_text(processors, text, out)
+    }
+
+    fn write_text(&self, order: &[u8], out: &mut [u8]) -> Answer {
+        crate::write_text(order, out)
     }
 }

@@ -23,23 +23,24 @@ impl Tally {
         self.counts.get(&(number, operation)).copied().unwrap_or(0)
     }
 
-    /// How often a number was answered by any operation.
-    pub fn total(&self, number: u16) -> u32 {
-        let operations = self.operations.iter();
-        operations.map(|&operation| self.of(number, operation)).sum()
+    /// How many cases were counted.
+    pub fn cases(&self) -> u32 {
+        self.counts.values().sum()
     }
 
-    /// The numbers that these operations can answer by the definition.
-    fn numbers(&self) -> impl Iterator<Item = u16> + '_ {
-        let can = |number: &u16| self.operations.iter().any(|op| op.can_answer(*number));
-        (0..=46).filter(can)
+    /// The numbers that some operations can answer by the definition, and how often they did.
+    fn totals<'a>(&'a self, of: &'a [Operation]) -> impl Iterator<Item = (u16, u32)> + 'a {
+        let can = |number: &u16| of.iter().any(|operation| operation.can_answer(*number));
+        let total = |number| of.iter().map(|&operation| self.of(number, operation)).sum();
+        (0..=Operation::MOST).filter(can).map(move |number| (number, total(number)))
     }
 
-    /// The rarest number and how often it came; no input brings about 28.
+    /// The rarest number and how often its group of operations answered it; no input brings about 28.
     pub fn rarest(&self) -> (u16, u32) {
-        let numbers = self.numbers().filter(|&number| number != 28);
-        let totals = numbers.map(|number| (number, self.total(number)));
-        totals.min_by_key(|&(_, total)| total).unwrap_or((0, 0))
+        let groups = Operation::groups(&self.operations);
+        let totals = groups.iter().flat_map(|group| self.totals(group));
+        let but_28 = totals.filter(|&(number, _)| number != 28);
+        but_28.min_by_key(|&(_, total)| total).unwrap_or((0, 0))
     }
 }
 
@@ -47,15 +48,15 @@ impl fmt::Display for Tally {
     fn fmt(&self, f: &mut fmt::Formatter) -> fmt::Result {
         write!(f, "number")?;
         for operation in &self.operations {
-            write!(f, "{:>9}", operation.name())?;
+            write!(f, "{:>11}", operation.name())?;
         }
-        writeln!(f, "{:>9}", "all")?;
-        for number in self.numbers() {
+        writeln!(f, "{:>11}", "all")?;
+        for (number, total) in self.totals(&self.operations) {
             write!(f, "{number:>6}")?;
             for &operation in &self.operations {
-                write!(f, "{:>9}", self.of(number, operation))?;
+                write!(f, "{:>11}", self.of(number, operation))?;
             }
-            writeln!(f, "{:>9}", self.total(number))?;
+            writeln!(f, "{total:>11}")?;
         }
         let (number, total) = self.rarest();
         writeln!(f, "rarest, 28 aside: {number}, {total} times")

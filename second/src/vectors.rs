@@ -54,8 +54,13 @@ impl Kind {
     const SHORT: usize = 64;
     /// The least of many tasks.
     const MANY: usize = 4;
+    /// The longest text that is taken, in bytes.
+    const TEXT: usize = 1_500;
 
     fn of(case: &Case, number: u16) -> Option<Kind> {
+        if matches!(case, Case::ReadText { text, .. } if text.len() > Kind::TEXT) {
+            return None;
+        }
         let many = tasks(case) >= Kind::MANY;
         match (records(case), number) {
             (0..=Kind::SHORT, 0) if many => Some(Kind::Many),
@@ -104,7 +109,7 @@ impl Choice {
     /// Whether no case is wanted any more; no input brings about 28.
     pub fn is_complete(&self) -> bool {
         let mut answers = self.operations.iter().flat_map(|&operation| {
-            let numbers = (0..=46).filter(move |&number| operation.can_answer(number));
+            let numbers = (0..=Operation::MOST).filter(move |&number| operation.can_answer(number));
             numbers.map(move |number| (operation, number))
         });
         answers.all(|(operation, number)| {
@@ -126,12 +131,16 @@ fn records(case: &Case) -> usize {
     }
 }
 
-/// The tasks that a case's order or first column has room for.
+/// The tasks that a case's order or first column has room for, or the lines of its text.
 fn tasks(case: &Case) -> usize {
     match case {
         Case::Write { columns: [widths, ..], .. } => widths.len(),
-        Case::Read { order } | Case::Plan { order, .. } => order.len() / Order::TASK.bytes(),
-        Case::Check { order, .. } | Case::Run { order, .. } => order.len() / Order::TASK.bytes(),
+        Case::ReadText { text, .. } => text.iter().filter(|&&byte| byte == b'\n').count(),
+        Case::Read { order }
+        | Case::Plan { order, .. }
+        | Case::Check { order, .. }
+        | Case::Run { order, .. }
+        | Case::WriteText { order, .. } => order.len() / Order::TASK.bytes(),
     }
 }
 
@@ -148,7 +157,7 @@ fn record(case: &Case) -> Vec<u8> {
             columns.iter().for_each(|column| put_column(&mut bytes, column));
             put_length(&mut bytes, *room);
         }
-        Case::Plan { order, room } => {
+        Case::Plan { order, room } | Case::WriteText { order, room } => {
             put_bytes(&mut bytes, order);
             put_length(&mut bytes, *room);
         }
@@ -158,6 +167,11 @@ fn record(case: &Case) -> Vec<u8> {
         }
         Case::Run { order, build, script, room } => {
             [order, build, script].iter().for_each(|part| put_bytes(&mut bytes, part));
+            put_length(&mut bytes, *room);
+        }
+        Case::ReadText { processors, text, room } => {
+            bytes.extend(processors.to_be_bytes());
+            put_bytes(&mut bytes, text);
             put_length(&mut bytes, *room);
         }
     }

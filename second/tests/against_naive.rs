@@ -45,6 +45,16 @@ fn run() {
 }
 
 #[test]
+fn read_text() {
+    agree(Operation::ReadText, 20_000, Scale::FULL);
+}
+
+#[test]
+fn write_text() {
+    agree(Operation::WriteText, 10_000, Scale::FULL);
+}
+
+#[test]
 fn long_periods() {
     agree(Operation::Plan, 150, LONG);
     agree(Operation::Check, 150, LONG);

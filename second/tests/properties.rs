@@ -8,6 +8,7 @@ use second::order::Order;
 use second::program::Second;
 use second::script::Record;
 use second::tally::Tally;
+use second::text;
 
 /// Random orders that the planner accepts, with their builds.
 fn planned(seed: u64, tries: u64) -> impl Iterator<Item = (Random, Order, Vec<u8>)> {
@@ -76,12 +77,23 @@ fn partitions_are_apart() {
 /// The random cases bring about every number but 28.
 #[test]
 fn every_number_is_drawn() {
-    let mut tally = Tally::new(&Operation::ALL);
-    for index in 0..20_000 {
-        let case = cases::nth(1, index, &Operation::ALL, &Scale::FULL);
+    let operations = Operation::all();
+    let mut tally = Tally::new(&operations);
+    for case in cases::drawn(1, 28_000, &operations) {
         tally.add(case.outcome(&Second).answer.number, case.operation());
     }
     assert!(tally.rarest().1 >= 10, "{tally}");
+}
+
+/// Reading the text of an order gives it back.
+#[test]
+fn texts_come_back() {
+    for index in 0..10_000 {
+        let order = orders::order(&mut Random::nth(6, index), &Scale::FULL);
+        let written = text::write(&order);
+        assert!(written.len() <= text::MOST);
+        assert_eq!(text::read(order.processors, &written), Ok(order));
+    }
 }
 
 #[test]

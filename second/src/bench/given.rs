@@ -3,16 +3,19 @@
 use super::Operation;
 use crate::generate::random::Random;
 use crate::generate::{builds, papers, scripts, slow, Scale};
-use crate::order::Order;
+use crate::order::{Order, Task};
 use crate::script::{self, Record};
-use crate::{check, counted, speed};
+use crate::{check, counted, speed, text};
 
-/// An order with its build, none if it is refused; the build with all tasks in one partition; and a legal script.
+/// An order with its build, none if it is refused; the build with all tasks in one partition; a legal script; M and a
+/// text.
 pub struct Given {
     pub order: Vec<u8>,
     pub build: Vec<u8>,
     pub in_one: Vec<u8>,
     pub script: Vec<u8>,
+    pub processors: u32,
+    pub text: Vec<u8>,
 }
 
 impl Given {
@@ -21,7 +24,14 @@ impl Given {
         let planned = speed::plan(&bytes, &mut build);
         build.truncate(planned.count as usize);
         let in_one = builds::all_in_one(order).bytes();
-        Given { order: bytes, build, in_one, script: script::bytes(script) }
+        Given {
+            order: bytes,
+            build,
+            in_one,
+            script: script::bytes(script),
+            processors: order.processors,
+            text: text::write(order),
+        }
     }
 
     pub fn accepted(&self) -> bool {
@@ -32,7 +42,7 @@ impl Given {
         self.script.len() / 6
     }
 
-    /// The library's terms in an operation, as its copy counts them.
+    /// The library's terms in an operation, as its copy counts them; a text has none.
     pub fn terms(&self, operation: Operation) -> u64 {
         let checked = |order: &Order, build: &[u8]| {
             let build = check::read(build, order).expect("a build");
@@ -43,6 +53,7 @@ impl Given {
             Operation::Plan => counted::plan(&order).1,
             Operation::CheckInOne => checked(&order, &self.in_one),
             Operation::Check | Operation::Run => checked(&order, &self.build),
+            Operation::ReadText | Operation::WriteText => 0,
         }
     }
 
@@ -91,6 +102,21 @@ pub fn growing(n: u32, orders: usize) -> Vec<Given> {
         }
     }
     all
+}
+
+/// A text of one line whose period has so many zeros in front.
+pub fn zeros(count: usize) -> Given {
+    of_text(["1;", &"0".repeat(count), "7.50;7.50;7.50\n"].concat())
+}
+
+/// A text of so many line feeds.
+pub fn line_feeds(count: usize) -> Given {
+    of_text("\n".repeat(count))
+}
+
+fn of_text(text: String) -> Given {
+    let order = Order { processors: 1, tasks: vec![Task { m: 1, t: 750, d: 750, c: 750 }] };
+    Given { text: text.into_bytes(), ..Given::new(&order, &[]) }
 }
 
 /// The orders of slow.txt, each with a legal script.

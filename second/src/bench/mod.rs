@@ -8,6 +8,7 @@ use crate::answer::Answer;
 use crate::library::Library;
 use crate::program::{Program, Second};
 use crate::speed::Speed;
+use crate::{order::Order, text};
 use given::Given;
 
 /// A program that is timed.
@@ -31,6 +32,8 @@ pub enum Operation {
     /// The check of the build that has all tasks in one partition.
     CheckInOne,
     Run,
+    ReadText,
+    WriteText,
 }
 
 impl Operation {
@@ -40,24 +43,28 @@ impl Operation {
             Operation::Check => "check",
             Operation::CheckInOne => "check, all in one",
             Operation::Run => "run",
+            Operation::ReadText => "read_text",
+            Operation::WriteText => "write_text",
         }
     }
 
     pub fn limit(self) -> f64 {
         match self {
-            Operation::Plan | Operation::Check | Operation::CheckInOne => 2.0,
             Operation::Run => 4.0,
+            _ => 2.0,
         }
     }
 
     /// The answer of a program, over cleared outputs.
     pub fn answer(self, program: &dyn Program, given: &Given) -> Answer {
-        let Given { order, build, in_one, script } = given;
+        let Given { order, build, in_one, script, processors, text } = given;
         match self {
             Operation::Plan => program.plan(order, &mut [0; 195]),
             Operation::Check => program.check(order, build),
             Operation::CheckInOne => program.check(order, in_one),
             Operation::Run => program.run(order, build, script, &mut [0; 1_024]),
+            Operation::ReadText => program.read_text(*processors, text, &mut [0; Order::MOST]),
+            Operation::WriteText => program.write_text(order, &mut [0; text::MOST]),
         }
     }
 }

@@ -39,7 +39,10 @@ impl Tables {
             Operation::Run => mean(given, |given| given.records() as u64).to_string(),
             _ => String::new(),
         };
-        let terms = mean(given, |given| given.terms(operation));
+        let terms = match operation {
+            Operation::ReadText | Operation::WriteText => String::new(),
+            _ => mean(given, |given| given.terms(operation)).to_string(),
+        };
         let (what, cases) = (operation.name(), given.len());
         println!("| {name} | {what} | {cases} | {records} | {terms} |{cells} {ratio:.2} |");
         self.note(operation, ratio, name);

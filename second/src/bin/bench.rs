@@ -5,13 +5,15 @@
 
 use second::bench::given::{self, Given};
 use second::bench::table::Tables;
-use second::bench::Operation::{Check, CheckInOne, Plan, Run};
+use second::bench::Operation::{Check, CheckInOne, Plan, ReadText, Run, WriteText};
 use second::generate::papers;
 use std::process::exit;
 
-/// All sides; and without the second program, whose plain search takes minutes for the slow orders.
+/// All sides; without the second program, whose plain search takes minutes for the slow orders; and without the program
+/// for speed, which has the second program's text.
 const ALL: [usize; 3] = [0, 1, 2];
 const FAST: [usize; 2] = [0, 2];
+const PLAIN: [usize; 2] = [0, 1];
 
 /// How many orders of a family are drawn.
 const ORDERS: u32 = 100;
@@ -78,6 +80,19 @@ fn slow(tables: &mut Tables) {
     }
 }
 
+fn texts(tables: &mut Tables) {
+    tables.head("The order form's text", "Text");
+    let given = given::filling(8, 0, 20);
+    let given: Vec<&Given> = given.iter().collect();
+    tables.row("32 lines", ReadText, &PLAIN, &given);
+    tables.row("32 lines", WriteText, &PLAIN, &given);
+    for count in [1_000, 10_000, 100_000, 1_000_000] {
+        tables.row(&format!("{count} zeros in front"), ReadText, &PLAIN, &[&given::zeros(count)]);
+    }
+    let count = 1_000_000;
+    tables.row(&format!("{count} line feeds"), ReadText, &PLAIN, &[&given::line_feeds(count)]);
+}
+
 fn main() {
     let mut tables = Tables { runs: 25, largest: Vec::new() };
     let mut limits = false;
@@ -99,6 +114,7 @@ fn main() {
     filling(&mut tables);
     growth(&mut tables);
     slow(&mut tables);
+    texts(&mut tables);
     if !tables.close() && limits {
         println!("\nsome ratio is over its limit");
         exit(1);

@@ -1,10 +1,11 @@
 //! Holds the static library against the second program, answer by answer and byte by byte.
 
 use second::answer::Answer;
-use second::case::Operation;
-use second::generate::{cases, Scale};
+use second::case::{Case, Operation, Outcome};
+use second::generate::cases;
 use second::library::{
-    jefkantu_check, jefkantu_plan, jefkantu_read_order, jefkantu_run, jefkantu_write_order,
+    jefkantu_check, jefkantu_plan, jefkantu_read_order, jefkantu_read_text, jefkantu_run,
+    jefkantu_write_order, jefkantu_write_text,
 };
 use second::options::Options;
 use second::order::Order;
@@ -62,6 +63,16 @@ impl Program for Watched {
             jefkantu_run(o.0, o.1, b.0, b.1, s.0, s.1, to, room)
         })
     }
+
+    fn read_text(&self, processors: u32, text: &[u8], out: &mut [u8]) -> Answer {
+        let (to, room) = (out.as_mut_ptr(), out.len());
+        self.lend([text], |[t]| unsafe { jefkantu_read_text(processors, t.0, t.1, to, room) })
+    }
+
+    fn write_text(&self, order: &[u8], out: &mut [u8]) -> Answer {
+        let (to, room) = (out.as_mut_ptr(), out.len());
+        self.lend([order], |[o]| unsafe { jefkantu_write_text(o.0, o.1, to, room) })
+    }
 }
 
 /// Whether the library's operation is linked.
@@ -71,6 +82,7 @@ fn linked(operation: &Operation) -> bool {
         Operation::Plan => cfg!(feature = "plan"),
         Operation::Check => cfg!(feature = "check"),
         Operation::Run => cfg!(feature = "run"),
+        Operation::ReadText | Operation::WriteText => cfg!(feature = "text"),
     }
 }
 
@@ -81,10 +93,40 @@ fn operations(options: &Options) -> Vec<Operation> {
         operations.retain(linked);
     }
     if operations.is_empty() || !operations.iter().all(linked) {
-        eprintln!("not linked; build with --features read_write,plan,check,run as needed");
+        eprintln!("not linked; build with --features read_write,plan,check,run,text as needed");
         exit(2)
     }
     operations
+}
+
+/// What both programs make of a case; none where they differ, which is told.
+fn alike(library: &Watched, case: &Case) -> Option<Outcome> {
+    let ours = case.outcome(&Second);
+    let theirs = case.outcome(library);
+    if ours == theirs && !library.meddled.get() {
+        return Some(theirs);
+    }
+    println!("second:  {}", case.line(&ours));
+    println!("library: {}", case.line(&theirs));
+    if let Some(cell) = ours.first_difference(&theirs) {
+        println!("the outputs first differ in cell {cell}");
+    }
+    if library.meddled.get() {
+        println!("the library changed an input");
+    }
+    None
+}
+
+/// That, and a text that was written is read back as its order.
+fn holds(library: &Watched, case: &Case) -> Option<Outcome> {
+    let outcome = alike(library, case)?;
+    if let Some((read, order)) = case.read_back(&outcome) {
+        if alike(library, &read)?.output_bytes() != order {
+            println!("read back as another order: {}", case.line(&outcome));
+            return None;
+        }
+    }
+    Some(outcome)
 }
 
 fn main() {
@@ -92,24 +134,18 @@ fn main() {
     let operations = operations(&options);
     let library = Watched::default();
     let mut tally = Tally::new(&operations);
-    for index in 0..options.cases {
-        let case = cases::nth(options.seed, index, &operations, &Scale::FULL);
-        let ours = case.outcome(&Second);
-        let theirs = case.outcome(&library);
-        if ours != theirs || library.meddled.get() {
-            println!("seed {} case {index}", options.seed);
-            println!("second:  {}", case.line(&ours));
-            println!("library: {}", case.line(&theirs));
-            if let Some(cell) = ours.first_difference(&theirs) {
-                println!("the outputs first differ in cell {cell}");
-            }
-            if library.meddled.get() {
-                println!("the library changed an input");
-            }
-            exit(1);
-        }
-        tally.add(ours.answer.number, case.operation());
+    for case in cases::drawn(options.seed, options.cases, &operations) {
+        let Some(outcome) = holds(&library, &case) else {
+            println!("seed {} case {}", options.seed, tally.cases());
+            exit(1)
+        };
+        tally.add(outcome.answer.number, case.operation());
     }
     print!("{tally}");
-    println!("{} cases of seed {} agree", options.cases, options.seed);
+    println!("{} cases of seed {} agree", tally.cases(), options.seed);
+    let (number, times) = tally.rarest();
+    if times < options.least {
+        println!("number {number} came {times} times, not {}", options.least);
+        exit(1);
+    }
 }

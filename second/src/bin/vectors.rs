@@ -1,4 +1,4 @@
-//! Writes vectors, a few of each number of each operation, out of the random cases of a seed.
+//! Writes vectors: a few of each number of each operation, out of the random cases of a seed, and the texts that were typed.
 
 use second::generate::{cases, Scale};
 use second::{options::Options, program::Second, vectors::Choice};
@@ -7,17 +7,22 @@ use std::io::{self, Write};
 fn main() -> io::Result<()> {
     let options = Options::from_arguments();
     let operations = options.operations();
-    let mut choice = Choice::new(&operations, options.each);
     let mut out = io::stdout().lock();
-    for index in 0..options.cases {
-        let case = cases::nth(options.seed, index, &operations, &Scale::FULL);
-        let outcome = case.outcome(&Second);
-        if choice.takes(&case, outcome.answer.number) {
-            out.write_all(&options.form.of(&case, &outcome))?;
-            if choice.is_complete() {
-                break;
+    for (group, cases) in cases::shares(&operations, options.cases) {
+        let mut choice = Choice::new(&group, options.each);
+        for index in 0..cases {
+            let case = cases::nth(options.seed, index, &group, &Scale::FULL);
+            let outcome = case.outcome(&Second);
+            if choice.takes(&case, outcome.answer.number) {
+                out.write_all(&options.form.of(&case, &outcome))?;
+                if choice.is_complete() {
+                    break;
+                }
             }
         }
+    }
+    for case in cases::typed().filter(|case| operations.contains(&case.operation())) {
+        out.write_all(&options.form.of(&case, &case.outcome(&Second)))?;
     }
     Ok(())
 }

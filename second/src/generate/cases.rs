@@ -1,11 +1,43 @@
 //! Random cases.
 
 use super::random::Random;
-use super::{builds, damage, orders, scripts, Scale};
+use super::{builds, damage, orders, scripts, texts, Scale};
 use crate::case::{Case, Operation};
 use crate::fit::first_fit;
 use crate::order::{Order, Task};
-use crate::script;
+use crate::{script, text};
+
+/// The groups of some operations, and how many of so many cases each of them gets.
+pub fn shares(operations: &[Operation], cases: u64) -> Vec<(Vec<Operation>, u64)> {
+    let share = |group: Vec<Operation>| {
+        let share = cases * group.len() as u64 / operations.len() as u64;
+        (group, share)
+    };
+    Operation::groups(operations).into_iter().map(share).collect()
+}
+
+/// So many cases of some operations: the texts that were typed, then group by group those of a seed.
+pub fn drawn(seed: u64, cases: u64, operations: &[Operation]) -> impl Iterator<Item = Case> + '_ {
+    let typed = typed().filter(|case| operations.contains(&case.operation()));
+    let random = shares(operations, cases).into_iter().flat_map(move |(group, cases)| {
+        (0..cases).map(move |index| nth(seed, index, &group, &Scale::FULL))
+    });
+    typed.chain(random)
+}
+
+/// The texts that were typed, and the orders of those that are accepted; there is some more room than needed.
+pub fn typed() -> impl Iterator<Item = Case> {
+    texts::typed().into_iter().flat_map(|texts::Typed { processors, text, .. }| {
+        let order = text::read(processors, &text).ok();
+        let needed = order.as_ref().map_or(0, |order| order.bytes().len());
+        let write = order.map(|order| Case::WriteText {
+            room: text::write(&order).len() + 8,
+            order: order.bytes(),
+        });
+        let read = Case::ReadText { processors, text, room: needed + 8 };
+        [Some(read), write].into_iter().flatten()
+    })
+}
 
 /// The case of this index among those of a seed; the operations take turns.
 pub fn nth(seed: u64, index: u64, operations: &[Operation], scale: &Scale) -> Case {
@@ -21,6 +53,8 @@ fn draw(random: &mut Random, operation: Operation, scale: &Scale) -> Case {
         Operation::Plan => plan(random, scale),
         Operation::Check => check(random, scale),
         Operation::Run => run(random, scale),
+        Operation::ReadText => read_text(random, scale),
+        Operation::WriteText => write_text(random, scale),
     }
 }
 
@@ -141,4 +175,21 @@ fn run(random: &mut Random, scale: &Scale) -> Case {
         room: room(random, bytes.len() / 6),
         script: bytes,
     }
+}
+
+/// A text to read, damaged or not.
+fn read_text(random: &mut Random, scale: &Scale) -> Case {
+    let order = orders::order(random, scale);
+    let (processors, text) = texts::draw(random, &order);
+    Case::ReadText { processors, text, room: room(random, order.bytes().len()) }
+}
+
+/// An order to write as text, out of range or not, damaged or not.
+fn write_text(random: &mut Random, scale: &Scale) -> Case {
+    let mut order = orders::order(random, scale);
+    let needed = text::write(&order).len();
+    if random.one_in(4) {
+        orders::misdraw(random, &mut order);
+    }
+    Case::WriteText { order: order_bytes(random, &order, 2), room: room(random, needed) }
 }

@@ -1,4 +1,4 @@
-//! Random orders, builds, scripts and whole cases, the same ones for the same seed.
+//! Random orders, builds, scripts, texts and whole cases, the same ones for the same seed.
 
 pub mod builds;
 pub mod cases;
@@ -9,6 +9,7 @@ pub mod papers;
 pub mod random;
 pub mod scripts;
 pub mod slow;
+pub mod texts;
 
 use crate::order::Task;
 

@@ -30,6 +30,18 @@ pub fn order(random: &mut Random, scale: &Scale) -> Order {
     Order { processors, tasks }
 }
 
+/// Puts a number of one task out of range.
+pub fn misdraw(random: &mut Random, order: &mut Order) {
+    let chosen = random.below(order.tasks.len() as u32) as usize;
+    let task = &mut order.tasks[chosen];
+    match random.below(4) {
+        0 => task.m = random.pick(&[0, order.processors + 1]),
+        1 => task.t = random.pick(&[0, Task::PERIOD + 1]),
+        2 => task.d = random.pick(&[0, task.t + 1]),
+        _ => task.c = random.pick(&[0, task.d + 1]),
+    }
+}
+
 /// The fields of an order on the wire.
 pub fn sections(order: &Order) -> Vec<Section> {
     vec![Section::new(&Order::HEADER.0, 1), Section::new(&Order::TASK.0, order.tasks.len())]

@@ -44,4 +44,12 @@ impl Program for Speed {
     fn run(&self, order: &[u8], build: &[u8], script: &[u8], out: &mut [u32]) -> Answer {
         run(order, build, script, out)
     }
+
+    fn read_text(&self, processors: u32, text: &[u8], out: &mut [u8]) -> Answer {
+        crate::read_text(processors, text, out)
+    }
+
+    fn write_text(&self, order: &[u8], out: &mut [u8]) -> Answer {
+        crate::write_text(order, out)
+    }
 }
