@@ -1,11 +1,9 @@
--- Strings of digits: their test, what is not in them, their value digit by digit, and that they have one.
-use mathlib.Core.Path.{_≡_, refl, sym, ap, _∙_}
+-- Strings of digits: their test, what is not in them, and that they have one value.
+use mathlib.Core.Path.{_≡_, refl, sym, _∙_}
 use mathlib.Core.Bool.{Bool, true, false}
-use mathlib.Core.List.{List, [], _∷_, _++_}
-use Prim.Native.Nat.{ℕ, suc, _+_, _-_, _*_, _^_}
-use native.Mathlib.Nat.{pow-suc, mul-assoc}
-use native.Mathlib.Omega.{arith}
-use lib.ListN.{length, length-append}
+use mathlib.Core.List.{List, [], _∷_}
+use Prim.Native.Nat.{ℕ, _-_}
+use lib.ListN.{length}
 use borrow.Author.Tests.{lt-ltb, ltb-true}
 use Rattle.laws.proofs.Choice.{both, within-true, true-within}
 use Rattle.form.specs.Bytes.{zeroDigit, nineDigit, IsDigit, isDigit}
@@ -30,24 +28,10 @@ unfolding Digits
 digits-none passes apart [] d = count-nil passes
 digits-none passes apart (b ∷ s) d = none-cons passes b s (apart b (d .0)) (digits-none passes apart s (d .1))
 
-pub digits-append : (a s : List ℕ) → Digits a → Digits s → Digits (a ++ s)
-unfolding Digits
-digits-append [] s x y = y
-digits-append (b ∷ a) s x y = (x .0, digits-append a s (x .1) y)
-
--- the value, digit by digit
+-- the value of no digits
 pub value-nil : valueOf [] ≡ 0
 unfolding valueOf
 value-nil = refl
-
-pub value-more : (s : List ℕ) (d : ℕ) → valueOf (s ++ (d ∷ [])) ≡ valueOf s * 10 + (d - zeroDigit)
-unfolding valueOf
-value-more [] d = omega arith
-value-more (b ∷ s) d =
-    let size : length (s ++ (d ∷ [])) ≡ suc (length s) = length-append s (d ∷ []) ∙ omega arith in
-    let power : 10 ^ length (s ++ (d ∷ [])) ≡ 10 ^ length s * 10 = ap (10 ^_) size ∙ pow-suc 10 (length s) in
-    let product : (b - zeroDigit) * 10 ^ length (s ++ (d ∷ [])) ≡ (b - zeroDigit) * 10 ^ length s * 10 = ap ((b - zeroDigit) *_) power ∙ sym (mul-assoc (b - zeroDigit) (10 ^ length s) 10) in
-    omega (arith, product, value-more s d)
 
 -- the test of a number
 pub number-true : (s : List ℕ) → isNumber s ≡ true → IsNumber s (valueOf s)

@@ -9,7 +9,6 @@ use lib.ListN.{length, take, drop, length-append, drop-of-length-le}
 use borrow.Author.Tests.{eqb-true}
 use Rattle.laws.specs.Choice.{pick}
 use Rattle.laws.specs.Sums.{only}
-use Rattle.laws.proofs.Only.{only-le}
 use Rattle.form.specs.Parts.{count, upTo, behind, behindAll, part}
 
 module _ (passes : ℕ → Bool) where
@@ -25,11 +24,6 @@ module _ (passes : ℕ → Bool) where
   unfolding count
   count-append [] s = omega arith
   count-append (b ∷ a) s = omega (arith, count-append a s)
-
-  pub count-le-length : (s : List ℕ) → count passes s ≤ length s
-  unfolding count
-  count-le-length [] = omega arith
-  count-le-length (b ∷ s) = omega (arith, count-le-length s, only-le (passes b) 1)
 
   -- none of b and s passes: b does not, and none of s does
   pub none-first : (b : ℕ) (s : List ℕ) → count passes (b ∷ s) ≡ 0 → passes b ≡ false
@@ -47,15 +41,6 @@ module _ (passes : ℕ → Bool) where
   pub none-cons : (b : ℕ) (s : List ℕ) → passes b ≡ false → count passes s ≡ 0 → count passes (b ∷ s) ≡ 0
   unfolding count
   none-cons b s out none = rw (out, none)
-
-  -- the first byte alone
-  pub up-to-stop : (b : ℕ) (s : List ℕ) → passes b ≡ true → upTo passes (b ∷ s) ≡ []
-  unfolding upTo
-  up-to-stop b s h = rw h
-
-  pub up-to-on : (b : ℕ) (s : List ℕ) → passes b ≡ false → upTo passes (b ∷ s) ≡ b ∷ upTo passes s
-  unfolding upTo
-  up-to-on b s h = rw h
 
   -- nothing to cut at
   pub up-to-none : (f : List ℕ) → count passes f ≡ 0 → upTo passes f ≡ f

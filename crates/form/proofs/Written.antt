@@ -189,13 +189,13 @@ line-is-line t width period deadline run =
     }
 
 -- the numbers of a task in range are small
-record Small (t : Task) : Type 0 where
-  width : t .width ≤ mostProcessors
-  period : t .period ≤ mostPeriod
-  deadline : t .deadline ≤ mostPeriod
-  run : t .run ≤ mostPeriod
+pub record Small (t : Task) : Type 0 where
+  pub width : t .width ≤ mostProcessors
+  pub period : t .period ≤ mostPeriod
+  pub deadline : t .deadline ≤ mostPeriod
+  pub run : t .run ≤ mostPeriod
 
-small-task : (processors : ℕ) (t : Task) → processors ≤ mostProcessors → TaskInRange processors t → Small t
+pub small-task : (processors : ℕ) (t : Task) → processors ≤ mostProcessors → TaskInRange processors t → Small t
 unfolding cost
 small-task processors t few inside =
     let period = inside .period-in .1 in

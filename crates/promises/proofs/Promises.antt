@@ -1,6 +1,6 @@
 -- Every promise is kept, by the theorem that its claim names.
 use Rattle.order_facts.proofs.Facts.{one-reading, one-writing, refused-reads-zero, accepted-exactly, reading-gives-back, bytes-back, writes-only-counted-front, reading-unique, writing-unique}
-use Rattle.text_facts.proofs.Once.{one-time, one-text}
+use Rattle.text_facts.proofs.Once.{one-value, one-time, one-task, one-text}
 use Rattle.text_facts.proofs.Read.{text-accepted-exactly, one-text-reading, read-text-keeps, read-text-unique}
 use Rattle.text_facts.proofs.Refused.{lines-are, lines-refused-exactly, shape-refused-exactly, number-refused-exactly}
 use Rattle.text_facts.proofs.Write.{one-text-writing, write-text-keeps, write-text-unique, text-of-order, short-text, no-leading-zeros}
@@ -87,7 +87,9 @@ pub order-form : OrderForm
 order-form =
     record {
       as-typed = text-accepted-exactly;
+      one-value = one-value;
       one-time = one-time;
+      one-task = one-task;
       one-text = one-text;
       read = one-text-reading;
       lines = lines-are;

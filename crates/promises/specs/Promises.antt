@@ -1,7 +1,7 @@
 -- What the customer was promised: the three conditions of acceptance in the customer's words, and the points on the line.
 -- Each field is a claim that stands, with its definitions, where its `use` line says; proofs/Promises.antt cites its proof.
 use Rattle.order_facts.specs.Claims.{OneReading, OneWriting, RefusedReadsZero, AcceptedExactly, ReadingGivesBack, BytesReadBack, WritesOnlyCountedFront, ReadingUnique, WritingUnique}
-use Rattle.text_facts.specs.Claims.{TextAcceptedExactly, OneTime, OneText, OneTextReading, LinesAre, LinesRefusedExactly, ShapeRefusedExactly, NumberRefusedExactly, OneTextWriting, WrittenIsText, WrittenIsShort, NoLeadingZeros, TextReadBack, ReadTextKeeps, WriteTextKeeps, ReadTextUnique, WriteTextUnique}
+use Rattle.text_facts.specs.Claims.{TextAcceptedExactly, OneValue, OneTime, OneTask, OneText, OneTextReading, LinesAre, LinesRefusedExactly, ShapeRefusedExactly, NumberRefusedExactly, OneTextWriting, WrittenIsText, WrittenIsShort, NoLeadingZeros, TextReadBack, ReadTextKeeps, WriteTextKeeps, ReadTextUnique, WriteTextUnique}
 use Rattle.text_facts.specs.Cases.{Cases}
 use Rattle.build_facts.specs.Facts.{LengthRight, ReadsBack, WritesBack}
 use Rattle.demand.specs.Meaning.{EveryVerdictMeans, NoStartNever, AlonePasses}
@@ -87,7 +87,9 @@ pub record Condition3 : Type 0 where
 pub record OrderForm : Type 0 where
   -- accepted exactly when it is lines of numbers within the limits, and then the order has just those numbers
   pub as-typed : TextAcceptedExactly
+  pub one-value : OneValue
   pub one-time : OneTime
+  pub one-task : OneTask
   pub one-text : OneText
   -- or refused, for its cause and at its line only
   pub read : OneTextReading

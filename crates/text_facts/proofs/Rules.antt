@@ -10,7 +10,7 @@ use Rattle.laws.proofs.Choice.{both}
 use Rattle.laws.proofs.Filled.{length-filled, filled-past}
 use Rattle.model.specs.declared.order.Task.{Task}
 use Rattle.model.specs.declared.order.Order.{Order}
-use Rattle.model.specs.Limits.{mostTasks, mostProcessors, zeroTask, taskOf, cost}
+use Rattle.model.specs.Limits.{mostTasks, mostProcessors, zeroTask, taskOf}
 use Rattle.model.specs.Layouts.{orderLength}
 use Rattle.model.specs.Rules.{AllKept, Tells, TestsTell, rangeRules, roomRules, TaskInRange, WithinLimits}
 use Rattle.model.proofs.Rules.{tell-append, tell-all, at-most-tells, kept-append, kept-front, kept-rest, kept-at, kept-all}
@@ -21,6 +21,7 @@ use Rattle.form.specs.Lines.{IsLine, isLine, NumbersFit, lineTask}
 use Rattle.form.specs.Text.{IsText, typedLine, finishedLines, lineCount, typedTask, textOrder}
 use Rattle.form.proofs.Lines.{line-true, true-line, line-task, line-once, fit-true, true-fit}
 use Rattle.form.proofs.Text.{text-finished, text-lines, text-typed, text-is, text-order}
+use Rattle.form.proofs.Written.{small-task}
 use Rattle.text.specs.Read.{Shaped, shaped, typedFits, lineRules, textRules, readTextRules}
 use Rattle.text_facts.specs.Claims.{Typed}
 
@@ -59,13 +60,9 @@ read-text-tells processors text room = tell-append (textRules text) _ (text-tell
 
 -- a task in range has no number over the most that may be typed
 fits-range : (processors : ℕ) (t : Task) → processors ≤ mostProcessors → TaskInRange processors t → NumbersFit t
-unfolding cost
-fits-range processors t few r =
-    let width = r .width-in .1 in
-    let period = r .period-in .1 in
-    let deadline = r .deadline-in .1 in
-    let run = r .cost-in .1 in
-    record { width = omega arith; period = omega arith; deadline = omega arith; run = omega arith }
+fits-range processors t few inside =
+    let small = small-task processors t few inside in
+    record { width = omega (arith, small .width); period = omega (arith, small .period); deadline = omega (arith, small .deadline); run = omega (arith, small .run) }
 
 -- the rules hold: the order that is typed is within the limits, and there is room
 module _ (processors : ℕ) (text : List ℕ) (room : ℕ) (kept : AllKept (readTextRules processors text room)) where

@@ -46,10 +46,6 @@ pub digit-kind : (b : ℕ) → isDigit b ≡ true → kindOf b ≡ Digit
 unfolding kindOf
 digit-kind b e = rw e
 
-pub mark-kind : (b : ℕ) → isDigit b ≡ false → isMark b ≡ true → kindOf b ≡ Mark
-unfolding kindOf
-mark-kind b d m = rw (d, m)
-
 pub other-kind : (b : ℕ) → isDigit b ≡ false → isMark b ≡ false → isSemicolon b ≡ false → isLineFeed b ≡ false → kindOf b ≡ Other
 unfolding kindOf
 other-kind b d m s l = rw (d, m, s, l)
