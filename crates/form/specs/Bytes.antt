@@ -1,11 +1,19 @@
 -- "Each byte is decided by its range: digit, comma or point, semicolon, line feed, anything else."
 use Prim.Native.Nat.{ℕ}
+use Prim.Native.Char.{code}
+use Prim.Native.String.{String, [] as end, _∷_ as _then_}
 use mathlib.Core.Path.{_≡_}
 use mathlib.Core.Bool.{Bool, true}
+use mathlib.Core.List.{List, [], _∷_}
 use mathlib.Core.Logic.{_⊎_}
 use lib.Dec.{eqb}
 use Rattle.laws.specs.Choice.{pick, within}
 use Rattle.model.specs.Rules.{InRange}
+
+-- the bytes of a text of one-byte characters
+unfoldable pub bytesOf : String → List ℕ
+bytesOf end = []
+bytesOf (c then s) = code c ∷ bytesOf s
 
 -- the bytes of `0`, `9`, `,`, `.`, `;` and of a line feed
 abbrev pub zeroDigit : ℕ

@@ -3,10 +3,11 @@ use Prim.Native.Nat.{ℕ, suc, _+_, _-_, _*_, _^_, _<_, min}
 use mathlib.Core.Path.{_≡_}
 use mathlib.Core.Bool.{Bool, true, false}
 use mathlib.Core.List.{List, [], _∷_}
-use lib.ListN.{length}
+use lib.ListN.{length, drop}
 use lib.Dec.{ltb}
 use Rattle.laws.specs.Choice.{pick}
 use Rattle.form.specs.Bytes.{zeroDigit, IsDigit, isDigit}
+use Rattle.form.specs.Parts.{upTo}
 
 -- each byte is a digit
 unfoldable pub Digits : List ℕ → Type 0
@@ -16,6 +17,14 @@ Digits (b ∷ s) = IsDigit b × Digits s
 unfoldable pub allDigits : List ℕ → Bool
 allDigits [] = true
 allDigits (b ∷ s) = pick (isDigit b) (allDigits s) false
+
+-- the digits that s begins with
+unfoldable pub digitsOf : List ℕ → List ℕ
+digitsOf s = upTo (λ b. pick (isDigit b) false true) s
+
+-- what stands behind them
+abbrev pub behindDigits : List ℕ → List ℕ
+behindDigits s = drop (length (digitsOf s)) s
 
 -- the value of a string of digits: a digit counts ten times what it would one place further
 unfoldable pub valueOf : List ℕ → ℕ

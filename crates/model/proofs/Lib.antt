@@ -1,3 +1,4 @@
 pub mod Output
 pub mod Rules
+pub mod Wrote
 pub mod Ranges

@@ -20,12 +20,12 @@ use Rattle.text_facts.proofs.Write.{write-accepts, write-front}
 
 pub text-read-back : TextReadBack
 text-read-back order output written after count all w e room read back r fits =
-    let rules = write-accepts order output written after count w e in
+    let rules = write-accepts order output written after w count e in
     let o : Order = orderAt order in
     let limits : WithinLimits o = within-limits order rules in
     let bytes : order ≡ orderBytes o = bytes-are order all rules in
     let size : length order ≡ orderLength 1 (o .tasks) = ap length bytes ∙ length-order o in
-    let front = write-front order output written after count w e in
+    let front = write-front order output written after w count e in
     let is : Typed (o .processors) (take count after) o = record { typed = rw front (written-is-text o limits); beside = refl; limits = limits } in
     let done : readTextAnswer (o .processors) (take count after) (length room) ≡ Done (orderLength 1 (o .tasks)) = read-done (o .processors) (take count after) o (length room) is (subst (_≤ length room) size fits) in
     let answered = r .answered ∙ done ∙ ap Done (sym size) in (

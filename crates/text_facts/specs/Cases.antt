@@ -1,7 +1,6 @@
 -- The accident, over whole texts: what is typed here is read as these ticks, or refused at its line.
 use Prim.Native.Nat.{ℕ}
-use Prim.Native.Char.{code}
-use Prim.Native.String.{String, [] as end, _∷_ as _then_}
+use Prim.Native.String.{String}
 use mathlib.Core.Path.{_≡_}
 use mathlib.Core.List.{List, [], _∷_, _++_}
 use Rattle.laws.specs.Joined.{joined}
@@ -11,14 +10,9 @@ use Rattle.model.specs.declared.answer.Refusal.the-variants.{OfOrder, OfText}
 use Rattle.model.specs.declared.answer.TextCause.the-variants.{LineShape, LineNumber, LineCount}
 use Rattle.model.specs.declared.answer.OrderCause.the-variants.{Processors, Tasks}
 use Rattle.model.specs.Layouts.{orderLength}
-use Rattle.form.specs.Bytes.{zeroDigit, nineDigit, comma, point, semicolon, lineFeed}
+use Rattle.form.specs.Bytes.{bytesOf, zeroDigit, nineDigit, comma, point, semicolon, lineFeed}
 use Rattle.form.specs.Text.{typedTask}
 use Rattle.text.specs.Read.{readTextAnswer}
-
--- the bytes of a text of one-byte characters
-unfoldable pub bytesOf : String → List ℕ
-bytesOf end = []
-bytesOf (c then s) = code c ∷ bytesOf s
 
 abbrev pub times : (period deadline run : ℕ) → Task
 times period deadline run = record { width = 1; period = period; deadline = deadline; run = run }

@@ -1,4 +1,2 @@
-pub mod Counted
-pub mod Put
 pub mod Lines
 pub mod Rules

@@ -4,58 +4,19 @@ use model::CallCause;
 use model::Order;
 use model::Refusal;
 use model::Task;
+use put::digits_in;
+use put::put_byte;
+use put::put_digits;
+use put::put_numeral;
 ghost use mathlib.Core.Path.{_≡_};
-ghost use mathlib.Core.List.{[], _∷_, _++_};
+ghost use mathlib.Core.List.{_∷_, _++_};
 ghost use Prim.Native.Nat.{_+_, _≤_};
 ghost use lib.ListN.{length, drop};
 ghost use Rattle.model.specs.Limits.{mostTasks};
 ghost use Rattle.form.specs.Bytes.{semicolon};
-ghost use Rattle.form.specs.Written.{lastDigits, digitsIn, numeral, timeText, lineText, orderText};
-ghost use Rattle.text_out.specs.Put.{HasRoom, PutsAt};
+ghost use Rattle.form.specs.Written.{timeText, lineText, orderText};
+ghost use Rattle.put.specs.Put.{HasRoom, PutsAt};
 ghost use Rattle.text_out.specs.Write.{WritesText};
-
-// How many digits a number has.
-fn digits_in(number: u32) -> usize
-    ensures { λ r. ⌜ (r ≡ digitsIn number) × (r ≤ 10) ⌝ }
-{
-    let mut digits: usize = 1;
-    let mut left = number;
-    while left >= 10 {
-        left = left / 10;
-        digits += 1;
-    }
-    digits
-}
-
-fn put_byte(out: &mut [u8], at: usize, byte: u8) -> usize
-    requires { ⌜ at + 1 ≤ length (now out) ⌝ }
-    ensures { λ r. ⌜ PutsAt at (byte ∷ []) (now (out .entry)) r (now (out .exit)) ⌝ }
-{
-    out[at] = byte;
-    at + 1
-}
-
-// The last digits of a number, from the last to the first.
-fn put_digits(out: &mut [u8], at: usize, digits: usize, number: u32) -> usize
-    requires { ⌜ at + digits ≤ length (now out) ⌝ }
-    ensures { λ r. ⌜ PutsAt at (lastDigits digits number) (now (out .entry)) r (now (out .exit)) ⌝ }
-{
-    let mut left = number;
-    let mut i = digits;
-    while 0 < i {
-        i -= 1;
-        out[at + i] = b'0' + (left % 10) as u8;
-        left = left / 10;
-    }
-    at + digits
-}
-
-fn put_numeral(out: &mut [u8], at: usize, number: u32) -> usize
-    requires { ⌜ HasRoom at (numeral number) (now out) ⌝ }
-    ensures { λ r. ⌜ PutsAt at (numeral number) (now (out .entry)) r (now (out .exit)) ⌝ }
-{
-    put_digits(out, at, digits_in(number), number)
-}
 
 // A semicolon, then a time.
 fn put_time(out: &mut [u8], at: usize, ticks: u32) -> usize

@@ -11,10 +11,11 @@ use Rattle.laws.specs.Choice.{within}
 use Rattle.laws.proofs.Choice.{within-true}
 use Rattle.laws.proofs.Every.{clash}
 use Rattle.form.specs.Bytes.{isMark}
-use Rattle.form.specs.Numbers.{valueOf, capped}
+use Rattle.form.specs.Numbers.{digitsOf, valueOf, capped}
 use Rattle.typed.specs.declared.DigitsTaken.{DigitsTaken}
-use Rattle.typed.specs.Taken.{digitsOf, TakesDigits, decimalsGood, decimalsLength, decimalsValue, TakesDecimals}
-use Rattle.typed.proofs.Digits.{digits-are, value-below}
+use Rattle.typed.specs.Taken.{TakesDigits, decimalsGood, decimalsLength, decimalsValue, TakesDecimals}
+use Rattle.form.proofs.Digits.{digits-are}
+use Rattle.typed.proofs.Digits.{value-below}
 
 module _ (text : List ℕ) (at : ℕ) where
   abbrev typed : List ℕ

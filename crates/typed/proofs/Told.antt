@@ -12,13 +12,13 @@ use Rattle.laws.specs.Choice.{pick}
 use Rattle.laws.proofs.Choice.{both}
 use Rattle.form.specs.Bytes.{semicolon, IsDigit, isDigit, IsMark, isEnd}
 use Rattle.form.specs.Parts.{count}
-use Rattle.form.specs.Numbers.{Digits, valueOf, isNumber, capped}
+use Rattle.form.specs.Numbers.{digitsOf, Digits, valueOf, isNumber, capped}
 use Rattle.form.proofs.Bytes.{digit-no-semicolon, digit-no-line-feed, mark-no-semicolon, mark-no-line-feed}
 use Rattle.form.proofs.Parts.{length-up-to}
 use Rattle.form.proofs.Numbers.{digits-none}
 use Rattle.typed.specs.declared.DigitsTaken.{DigitsTaken}
-use Rattle.typed.specs.Taken.{digitsOf, TakesDigits, fieldOf, endsAt, TakesFormField}
-use Rattle.typed.proofs.Digits.{digits-are, digits-cut, digits-over}
+use Rattle.typed.specs.Taken.{TakesDigits, fieldOf, endsAt, TakesFormField}
+use Rattle.form.proofs.Digits.{digits-are, digits-cut, digits-over}
 use Rattle.typed.proofs.Fields.{field-told, field-is}
 use Rattle.typed.proofs.Shapes.{not-number, number-is}
 

@@ -14,15 +14,16 @@ use Rattle.laws.proofs.Choice.{both, pick-turned}
 use Rattle.laws.proofs.Every.{clash}
 use Rattle.form.specs.Bytes.{semicolon, lineFeed, isMark, isEnd}
 use Rattle.form.specs.Parts.{count}
-use Rattle.form.specs.Numbers.{valueOf, capped}
+use Rattle.form.specs.Numbers.{digitsOf, valueOf, capped}
 use Rattle.form.specs.Times.{isTime, ticksOf}
 use Rattle.form.proofs.Bytes.{mark-true}
 use Rattle.form.proofs.Parts.{count-append, none-cons}
 use Rattle.form.proofs.Times.{ticks-whole, ticks-decimal}
 use Rattle.typed.specs.declared.DigitsTaken.{DigitsTaken}
 use Rattle.typed.specs.declared.FieldTaken.{FieldTaken}
-use Rattle.typed.specs.Taken.{digitsOf, TakesDigits, decimalsGood, decimalsLength, decimalsValue, TakesDecimals, fieldOf, endsAt, TakesFormField}
-use Rattle.typed.proofs.Digits.{digits-are, digits-cut, digits-over, capped-scaled}
+use Rattle.typed.specs.Taken.{TakesDigits, decimalsGood, decimalsLength, decimalsValue, TakesDecimals, fieldOf, endsAt, TakesFormField}
+use Rattle.form.proofs.Digits.{digits-are, digits-cut, digits-over}
+use Rattle.typed.proofs.Digits.{capped-scaled}
 use Rattle.typed.proofs.Fields.{field-told, field-is}
 use Rattle.typed.proofs.Shapes.{no-marks, whole-is, decimal-is, not-whole, not-decimal}
 use Rattle.typed.proofs.Told.{mark-no-end, no-ends, some-taken}

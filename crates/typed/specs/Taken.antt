@@ -9,13 +9,9 @@ use Rattle.laws.specs.Choice.{pick, within}
 use Rattle.laws.specs.Sums.{only}
 use Rattle.typed.specs.declared.DigitsTaken.{DigitsTaken}
 use Rattle.typed.specs.declared.FieldTaken.{FieldTaken}
-use Rattle.form.specs.Bytes.{isDigit, isMark, isEnd, semicolon, lineFeed}
+use Rattle.form.specs.Bytes.{isMark, isEnd, semicolon, lineFeed}
 use Rattle.form.specs.Parts.{upTo}
-use Rattle.form.specs.Numbers.{valueOf, capped}
-
--- the digits that s begins with
-unfoldable pub digitsOf : List ℕ → List ℕ
-digitsOf s = upTo (λ b. pick (isDigit b) false true) s
+use Rattle.form.specs.Numbers.{digitsOf, valueOf, capped}
 
 abbrev pub TakesDigits : List ℕ → ℕ → DigitsTaken → Type 0
 TakesDigits s at taken = (taken .value ≡ capped (valueOf (digitsOf s))) × (taken .next ≡ at + length (digitsOf s))

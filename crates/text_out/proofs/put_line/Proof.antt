@@ -5,8 +5,8 @@ use denote.Ref.{now}
 use Rattle.model.specs.declared.order.Task.{Task}
 use Rattle.form.specs.Bytes.{semicolon, lineFeed}
 use Rattle.form.specs.Written.{numeral, timeText, lineText}
-use Rattle.text_out.specs.Put.{HasRoom}
-use Rattle.text_out.proofs.Put.{room-first, room-next, puts-two}
+use Rattle.put.specs.Put.{HasRoom}
+use Rattle.put.proofs.Put.{room-first, room-next, puts-two}
 use Rattle.text_out.proofs.put_line.Statement.{statement}
 use Rattle.text_out.proofs.put_line.Tie as tie
 

@@ -6,8 +6,8 @@ use mathlib.Core.List.{_++_}
 use lib.ListN.{length, drop}
 use denote.Ref.{now}
 use Rattle.form.specs.Written.{orderText}
-use Rattle.text_out.specs.Put.{HasRoom, PutsAt}
-use Rattle.text_out.proofs.Put.{put-front, parts-none, part-room, parts-more}
+use Rattle.put.specs.Put.{HasRoom, PutsAt}
+use Rattle.put.proofs.Put.{put-front, parts-none, part-room, parts-more}
 use Rattle.text_out.proofs.Lines.{lineOf, linesOf}
 use Rattle.text_out.proofs.put_lines.Statement.{statement}
 use Rattle.text_out.proofs.put_lines.Tie as tie

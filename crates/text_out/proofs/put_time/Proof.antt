@@ -5,8 +5,8 @@ use native.Mathlib.Omega.{arith}
 use Rattle.form.specs.Bytes.{point}
 use Rattle.form.specs.Written.{numeral, lastDigits, timeText}
 use Rattle.form.proofs.Written.{length-last-digits}
-use Rattle.text_out.specs.Put.{HasRoom}
-use Rattle.text_out.proofs.Put.{room-first, room-next, puts-two}
+use Rattle.put.specs.Put.{HasRoom}
+use Rattle.put.proofs.Put.{room-first, room-next, puts-two}
 use Rattle.text_out.proofs.put_time.Statement.{statement}
 use Rattle.text_out.proofs.put_time.Tie as tie
 

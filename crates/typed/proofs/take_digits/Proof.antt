@@ -4,7 +4,8 @@ use Prim.Native.Nat.{ℕ, _+_, _-_}
 use borrow.Author.Tests.{not-true, not-false}
 use Rattle.laws.proofs.Choice.{within-true}
 use lib.ListN.{length}
-use Rattle.typed.proofs.Digits.{Taking, taking-first, taking-more, taking-last, digits-stopped, digits-past}
+use Rattle.form.proofs.Digits.{digits-stopped, digits-past}
+use Rattle.typed.proofs.Digits.{Taking, taking-first, taking-more, taking-last}
 use Rattle.typed.proofs.take_digits.Statement.{statement}
 use Rattle.typed.proofs.take_digits.Tie as tie
 use Rattle.typed.proofs.take_digits.Reads as reads

@@ -2,9 +2,9 @@ use borrow.Author.Needs.{needs}
 use Prim.Native.Nat.{_≤_}
 use mathlib.Core.Path.{_≡_, refl}
 use lib.ListN.{length, length-set}
-use Rattle.text_out.proofs.Put.{DigitsFrom, digits-none, digits-more, digits-all}
-use Rattle.text_out.proofs.put_digits.Statement.{statement}
-use Rattle.text_out.proofs.put_digits.Tie as tie
+use Rattle.put.proofs.Put.{DigitsFrom, digits-none, digits-more, digits-all}
+use Rattle.put.proofs.put_digits.Statement.{statement}
+use Rattle.put.proofs.put_digits.Tie as tie
 
 abbrev Inv-loop : tie.InvT-loop
 Inv-loop out₀ at digits number left₀ i₀ out left i = (i ≤ digits) × (length out ≡ length out₀) × DigitsFrom at digits number out₀ out left i

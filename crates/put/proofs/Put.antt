@@ -11,7 +11,7 @@ use Rattle.laws.specs.Joined.{joined}
 use Rattle.laws.proofs.Joined.{joined-none, joined-more, joined-at}
 use Rattle.form.specs.Written.{digitFor, lastDigits}
 use Rattle.form.proofs.Written.{length-last-digits, last-digits-first}
-use Rattle.text_out.specs.Put.{putAt, HasRoom, PutsAt}
+use Rattle.put.specs.Put.{putAt, HasRoom, PutsAt}
 
 pub length-put : (at : ℕ) (bytes output : List ℕ) → at + length bytes ≤ length output → length (putAt at bytes output) ≡ length output
 unfolding putAt

@@ -1,9 +1,9 @@
 use borrow.Author.Needs.{needs}
 use mathlib.Core.Path.{refl}
 use native.Mathlib.Omega.{arith}
-use Rattle.text_out.proofs.Put.{put-one}
-use Rattle.text_out.proofs.put_byte.Statement.{statement}
-use Rattle.text_out.proofs.put_byte.Tie as tie
+use Rattle.put.proofs.Put.{put-one}
+use Rattle.put.proofs.put_byte.Statement.{statement}
+use Rattle.put.proofs.put_byte.Tie as tie
 
 slice-write-out : tie.Need-slice-write-out
 slice-write-out c = search needs

@@ -1,8 +1,8 @@
 use borrow.Author.Needs.{needs}
 use native.Mathlib.Omega.{arith}
-use Rattle.text_out.proofs.Counted.{Counted, counted-none, counted-more, counted-all}
-use Rattle.text_out.proofs.digits_in.Statement.{statement}
-use Rattle.text_out.proofs.digits_in.Tie as tie
+use Rattle.put.proofs.Counted.{Counted, counted-none, counted-more, counted-all}
+use Rattle.put.proofs.digits_in.Statement.{statement}
+use Rattle.put.proofs.digits_in.Tie as tie
 
 abbrev Inv-loop : tie.InvT-loop
 Inv-loop number digits₀ left₀ digits left = Counted number digits left

@@ -2,8 +2,8 @@ use borrow.Author.Needs.{needs}
 use native.Mathlib.Omega.{arith}
 use Rattle.form.specs.Written.{numeral}
 use Rattle.form.proofs.Written.{length-numeral}
-use Rattle.text_out.proofs.put_numeral.Statement.{statement}
-use Rattle.text_out.proofs.put_numeral.Tie as tie
+use Rattle.put.proofs.put_numeral.Statement.{statement}
+use Rattle.put.proofs.put_numeral.Tie as tie
 
 digits-in-requires : tie.Need-digits-in-requires
 digits-in-requires c κs = search needs
