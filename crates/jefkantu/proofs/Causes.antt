@@ -2,7 +2,7 @@
 use Prim.Native.Nat.{_≤_}
 use native.Mathlib.Omega.{arith}
 use Rattle.model.specs.declared.answer.Refusal.{Refusal}
-use Rattle.model.specs.declared.answer.Refusal.the-variants.{OfOrder, OfCall, OfBuild, OfScript, OfText}
+use Rattle.model.specs.declared.answer.Refusal.the-variants.{OfOrder, OfCall, OfBuild, OfScript, OfText, OfList}
 use Rattle.model.specs.declared.answer.OrderCause.{OrderCause}
 use Rattle.model.specs.declared.answer.OrderCause.the-variants.{OrderShort, OrderVersion, Processors, Tasks, OrderLength, HeaderSpare, TaskSpare, Width, Period, Deadline, RunTime}
 use Rattle.model.specs.declared.answer.CallCause.{CallCause}
@@ -13,9 +13,11 @@ use Rattle.model.specs.declared.answer.ScriptCause.{ScriptCause}
 use Rattle.model.specs.declared.answer.ScriptCause.the-variants.{ScriptLength, RecordSpare, RecordTask, RecordOrder, JobLength, ReleaseGap, FinishPlaces}
 use Rattle.model.specs.declared.answer.TextCause.{TextCause}
 use Rattle.model.specs.declared.answer.TextCause.the-variants.{LineShape, LineNumber, LineCount}
-use Rattle.model.specs.Answer.{orderNumber, callNumber, buildNumber, scriptNumber, textNumber, causeNumber}
+use Rattle.model.specs.declared.answer.ListCause.{ListCause}
+use Rattle.model.specs.declared.answer.ListCause.the-variants.{ListShape, ListNumber, ListRange, ListLength}
+use Rattle.model.specs.Answer.{orderNumber, callNumber, buildNumber, scriptNumber, textNumber, listNumber, causeNumber}
 
-order-number-small : (cause : OrderCause) → orderNumber cause ≤ 52
+order-number-small : (cause : OrderCause) → orderNumber cause ≤ 65
 order-number-small OrderShort = omega arith
 order-number-small OrderVersion = omega arith
 order-number-small Processors = omega arith
@@ -28,12 +30,12 @@ order-number-small (Period place) = omega arith
 order-number-small (Deadline place) = omega arith
 order-number-small (RunTime place) = omega arith
 
-call-number-small : (cause : CallCause) → callNumber cause ≤ 52
+call-number-small : (cause : CallCause) → callNumber cause ≤ 65
 call-number-small (FirstFit place) = omega arith
 call-number-small Output = omega arith
 call-number-small Columns = omega arith
 
-build-number-small : (cause : BuildCause) → buildNumber cause ≤ 52
+build-number-small : (cause : BuildCause) → buildNumber cause ≤ 65
 build-number-small BuildShort = omega arith
 build-number-small BuildMismatch = omega arith
 build-number-small BuildLength = omega arith
@@ -46,7 +48,7 @@ build-number-small (Start place) = omega arith
 build-number-small (Late place) = omega arith
 build-number-small (Response place) = omega arith
 
-script-number-small : (cause : ScriptCause) → scriptNumber cause ≤ 52
+script-number-small : (cause : ScriptCause) → scriptNumber cause ≤ 65
 script-number-small ScriptLength = omega arith
 script-number-small (RecordSpare place) = omega arith
 script-number-small (RecordTask place) = omega arith
@@ -55,14 +57,21 @@ script-number-small (JobLength place) = omega arith
 script-number-small (ReleaseGap place) = omega arith
 script-number-small FinishPlaces = omega arith
 
-text-number-small : (cause : TextCause) → textNumber cause ≤ 52
+text-number-small : (cause : TextCause) → textNumber cause ≤ 65
 text-number-small (LineShape place) = omega arith
 text-number-small (LineNumber place) = omega arith
 text-number-small LineCount = omega arith
 
-pub cause-number-small : (cause : Refusal) → causeNumber cause ≤ 52
+list-number-small : (cause : ListCause) → listNumber cause ≤ 65
+list-number-small (ListShape place) = omega arith
+list-number-small (ListNumber place) = omega arith
+list-number-small (ListRange place) = omega arith
+list-number-small ListLength = omega arith
+
+pub cause-number-small : (cause : Refusal) → causeNumber cause ≤ 65
 cause-number-small (OfOrder cause) = order-number-small cause
 cause-number-small (OfCall cause) = call-number-small cause
 cause-number-small (OfBuild cause) = build-number-small cause
 cause-number-small (OfScript cause) = script-number-small cause
 cause-number-small (OfText cause) = text-number-small cause
+cause-number-small (OfList cause) = list-number-small cause

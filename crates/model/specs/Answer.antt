@@ -3,7 +3,7 @@ use Prim.Native.Nat.{ℕ}
 use mathlib.Core.Path.{_≡_}
 use mathlib.Core.List.{List, _++_}
 use lib.ListN.{length, drop}
-use Rattle.model.specs.Kinds.{Answer, Done, Refused, Refusal, OfOrder, OfCall, OfBuild, OfScript, OfText, OrderCause, OrderShort, OrderVersion, Processors, Tasks, OrderLength, HeaderSpare, TaskSpare, Width, Period, Deadline, RunTime, CallCause, FirstFit, Output, Columns, BuildCause, BuildShort, BuildMismatch, BuildLength, BuildSpare, PartitionPlace, TaskPartition, Rank, Window, Start, Late, Response, ScriptCause, ScriptLength, RecordSpare, RecordTask, RecordOrder, JobLength, ReleaseGap, FinishPlaces, TextCause, LineShape, LineNumber, LineCount}
+use Rattle.model.specs.Kinds.{Answer, Done, Refused, Refusal, OfOrder, OfCall, OfBuild, OfScript, OfText, OfList, OrderCause, OrderShort, OrderVersion, Processors, Tasks, OrderLength, HeaderSpare, TaskSpare, Width, Period, Deadline, RunTime, CallCause, FirstFit, Output, Columns, BuildCause, BuildShort, BuildMismatch, BuildLength, BuildSpare, PartitionPlace, TaskPartition, Rank, Window, Start, Late, Response, ScriptCause, ScriptLength, RecordSpare, RecordTask, RecordOrder, JobLength, ReleaseGap, FinishPlaces, TextCause, LineShape, LineNumber, LineCount, ListCause, ListShape, ListNumber, ListRange, ListLength}
 
 -- "65,535 where none applies"
 abbrev pub noPlace : ℕ
@@ -101,12 +101,26 @@ textPlace (LineShape line) = line
 textPlace (LineNumber line) = line
 textPlace LineCount = noPlace
 
+-- "65 .. no place, first; 60 at the first byte .., 61 .. at its first digit; 62 .. at its second number"
+abbrev pub listNumber : ListCause → ℕ
+listNumber (ListShape at) = 60
+listNumber (ListNumber at) = 61
+listNumber (ListRange at) = 62
+listNumber ListLength = 65
+
+abbrev pub listPlace : ListCause → ℕ
+listPlace (ListShape at) = at
+listPlace (ListNumber at) = at
+listPlace (ListRange at) = at
+listPlace ListLength = noPlace
+
 abbrev pub causeNumber : Refusal → ℕ
 causeNumber (OfOrder cause) = orderNumber cause
 causeNumber (OfCall cause) = callNumber cause
 causeNumber (OfBuild cause) = buildNumber cause
 causeNumber (OfScript cause) = scriptNumber cause
 causeNumber (OfText cause) = textNumber cause
+causeNumber (OfList cause) = listNumber cause
 
 abbrev pub causePlace : Refusal → ℕ
 causePlace (OfOrder cause) = orderPlace cause
@@ -114,6 +128,7 @@ causePlace (OfCall cause) = callPlace cause
 causePlace (OfBuild cause) = buildPlace cause
 causePlace (OfScript cause) = scriptPlace cause
 causePlace (OfText cause) = textPlace cause
+causePlace (OfList cause) = listPlace cause
 
 -- "0 means done: place 65,535, count of bytes or finish ticks written"; "Refusals have count 0"
 unfoldable pub answerNumber : Answer → ℕ

@@ -9,7 +9,7 @@ pub use Rattle.model.specs.declared.answer.Reading.{Reading}
 pub use Rattle.model.specs.declared.answer.Answer.{Answer}
 pub use Rattle.model.specs.declared.answer.Answer.the-variants.{Done, Refused}
 pub use Rattle.model.specs.declared.answer.Refusal.{Refusal}
-pub use Rattle.model.specs.declared.answer.Refusal.the-variants.{OfOrder, OfCall, OfBuild, OfScript, OfText}
+pub use Rattle.model.specs.declared.answer.Refusal.the-variants.{OfOrder, OfCall, OfBuild, OfScript, OfText, OfList}
 pub use Rattle.model.specs.declared.answer.OrderCause.{OrderCause}
 pub use Rattle.model.specs.declared.answer.OrderCause.the-variants.{OrderShort, OrderVersion, Processors, Tasks, OrderLength, HeaderSpare, TaskSpare, Width, Period, Deadline, RunTime}
 pub use Rattle.model.specs.declared.answer.CallCause.{CallCause}
@@ -20,3 +20,5 @@ pub use Rattle.model.specs.declared.answer.ScriptCause.{ScriptCause}
 pub use Rattle.model.specs.declared.answer.ScriptCause.the-variants.{ScriptLength, RecordSpare, RecordTask, RecordOrder, JobLength, ReleaseGap, FinishPlaces}
 pub use Rattle.model.specs.declared.answer.TextCause.{TextCause}
 pub use Rattle.model.specs.declared.answer.TextCause.the-variants.{LineShape, LineNumber, LineCount}
+pub use Rattle.model.specs.declared.answer.ListCause.{ListCause}
+pub use Rattle.model.specs.declared.answer.ListCause.the-variants.{ListShape, ListNumber, ListRange, ListLength}

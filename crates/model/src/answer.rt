@@ -1,7 +1,7 @@
 // The answers, and the causes of refusals by the thing refused; specs/Answer.antt gives each its number and place.
 use crate::Order;
 ghost use mathlib.Core.Path.{_≡_};
-ghost use Rattle.model.specs.Answer.{orderNumber, orderPlace, callNumber, callPlace, buildNumber, buildPlace, scriptNumber, scriptPlace, textNumber, textPlace, causeNumber, causePlace};
+ghost use Rattle.model.specs.Answer.{orderNumber, orderPlace, callNumber, callPlace, buildNumber, buildPlace, scriptNumber, scriptPlace, textNumber, textPlace, listNumber, listPlace, causeNumber, causePlace};
 
 // What is wrong with an order: 1 to 10. A place is a task.
 pub enum OrderCause {
@@ -58,6 +58,14 @@ pub enum TextCause {
     LineCount,
 }
 
+// What is wrong with a list of processors: 60 to 62 and 65. A place is a byte of its text.
+pub enum ListCause {
+    ListShape(u16),
+    ListNumber(u16),
+    ListRange(u16),
+    ListLength,
+}
+
 // Why something is refused.
 pub enum Refusal {
     OfOrder(OrderCause),
@@ -65,6 +73,7 @@ pub enum Refusal {
     OfBuild(BuildCause),
     OfScript(ScriptCause),
     OfText(TextCause),
+    OfList(ListCause),
 }
 
 // "65,535 where none applies"
@@ -220,6 +229,30 @@ impl TextCause {
     }
 }
 
+impl ListCause {
+    pub fn number(self) -> u16
+        ensures { λ r. ⌜ r ≡ listNumber self ⌝ }
+    {
+        match self {
+            ListCause::ListShape(_) => 60,
+            ListCause::ListNumber(_) => 61,
+            ListCause::ListRange(_) => 62,
+            ListCause::ListLength => 65,
+        }
+    }
+
+    pub fn place(self) -> u16
+        ensures { λ r. ⌜ r ≡ listPlace self ⌝ }
+    {
+        match self {
+            ListCause::ListShape(at) => at,
+            ListCause::ListNumber(at) => at,
+            ListCause::ListRange(at) => at,
+            ListCause::ListLength => NOWHERE,
+        }
+    }
+}
+
 impl Refusal {
     // "Every answer has a number, a place and a count"
     pub fn number(self) -> u16
@@ -231,6 +264,7 @@ impl Refusal {
             Refusal::OfBuild(cause) => cause.number(),
             Refusal::OfScript(cause) => cause.number(),
             Refusal::OfText(cause) => cause.number(),
+            Refusal::OfList(cause) => cause.number(),
         }
     }
 
@@ -243,6 +277,7 @@ impl Refusal {
             Refusal::OfBuild(cause) => cause.place(),
             Refusal::OfScript(cause) => cause.place(),
             Refusal::OfText(cause) => cause.place(),
+            Refusal::OfList(cause) => cause.place(),
         }
     }
 }

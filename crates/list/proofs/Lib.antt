@@ -1,0 +1,4 @@
+pub mod Cut
+pub mod Rules
+pub mod Taken
+pub mod Items

@@ -1,0 +1,12 @@
+pub mod Rules
+pub mod Kept
+pub mod KeptAll
+pub mod Read
+pub mod First
+pub mod Second
+pub mod Item
+pub mod Walk
+pub mod Refused
+pub mod Written
+pub mod Cases
+pub mod Back

@@ -1,0 +1,13 @@
+pub mod Items
+pub mod Lists
+pub mod Commas
+pub mod Fronts
+pub mod Starts
+pub mod Places
+pub mod Broken
+pub mod Sound
+pub mod Runs
+pub mod Once
+pub mod Listed
+pub mod ListText
+pub mod Short

@@ -1,0 +1,4 @@
+pub mod Items
+pub mod Offences
+pub mod Runs
+pub mod ListText
