@@ -1,6 +1,6 @@
 -- The run's parts in turn: the check stops it, or the script's rules go on.
 use Prim.Native.Nat.{ℕ}
-use mathlib.Core.Path.{_≡_, refl, sym, ap, _∙_, subst}
+use mathlib.Core.Path.{_≡_, sym, ap, _∙_, subst}
 use mathlib.Core.List.{List}
 use lib.ListN.{length}
 use Rattle.model.specs.declared.order.Order.{Order}
@@ -11,13 +11,13 @@ use Rattle.model.specs.declared.answer.Refusal.{Refusal}
 use Rattle.model.specs.Answer.{outputAfter}
 use Rattle.model.specs.Rules.{firstBroken}
 use Rattle.model.proofs.Output.{after-refused}
-use Rattle.model.proofs.Rules.{AllPass, pass-done, done-pass, pass-on, pass-kept, stop, any-count, never}
+use Rattle.model.proofs.Rules.{done-pass, pass-on, pass-kept, stop, any-count}
 use Rattle.order.specs.Order.{orderAt}
 use Rattle.build.specs.Build.{buildAt}
 use Rattle.inspect.specs.declared.Checked.{Checked}
-use Rattle.inspect.specs.Rules.{checkRules, checkAnswer, checkedBy, ChecksBoth}
-use Rattle.inspect.specs.Claims.{AcceptedBuild}
-use Rattle.inspect.proofs.Claims.{done-accepts}
+use Rattle.inspect.specs.Rules.{checkRules, checkAnswer, ChecksBoth}
+use Rattle.inspect.proofs.Answers.{answer-of}
+use Rattle.inspect.proofs.Handed.{check-passes, handed-order, handed-build}
 use Rattle.script.specs.Script.{recordsIn, scriptOf, scriptRules}
 use Rattle.script.specs.Claims.{ScriptAccepted}
 use Rattle.script.proofs.Accepted.{rules-accepted}
@@ -31,15 +31,6 @@ script-accepted o script places e =
     rules-accepted o script places (pass-kept (scriptRules o script places) (script-tells o script places) (done-pass (recordsIn script) (scriptRules o script places) e))
 
 module _ (order build : List ℕ) where
-  pub check-passes : {count : ℕ} → checkAnswer order build ≡ Done count → AllPass (checkRules order build)
-  unfolding checkAnswer
-  check-passes e = done-pass 0 (checkRules order build) e
-
-  -- the check counts nothing
-  check-zero : {count : ℕ} → checkAnswer order build ≡ Done count → checkAnswer order build ≡ Done 0
-  unfolding checkAnswer
-  check-zero e = pass-done 0 (checkRules order build) (check-passes e)
-
   module _ (script : List ℕ) (places : ℕ) where
     pub check-stops : {cause : Refusal} → checkAnswer order build ≡ Refused cause → runAnswer order build script places ≡ Refused cause
     unfolding checkAnswer runAnswer runRules
@@ -48,34 +39,7 @@ module _ (order build : List ℕ) where
 
     pub script-next : {count : ℕ} → checkAnswer order build ≡ Done count → runAnswer order build script places ≡ firstBroken (recordsIn script) (scriptRules (orderAt order) script places)
     unfolding runAnswer runRules
-    script-next e = pass-on (recordsIn script) (checkRules order build) (scriptRules (orderAt order) script places) (check-passes e)
-
--- the check that hands on what it read: its answer is the check's, and on a yes it hands on the order and the build
-answer-kept : (answer : Answer) (o : Order) (b : Build) → checkedBy answer o b .answer ≡ answer
-answer-kept (Done count) o b = refl
-answer-kept (Refused cause) o b = refl
-
-handed-on : (answer : Answer) (o : Order) (b : Build) {count : ℕ} → answer ≡ Done count → (checkedBy answer o b .order ≡ o) × (checkedBy answer o b .build ≡ b)
-handed-on (Done counted) o b e = (refl, refl)
-handed-on (Refused cause) o b e = never e
-
-module _ (order build : List ℕ) (checked : Checked) (so : ChecksBoth order build checked) where
-  pub checked-answer : checked .answer ≡ checkAnswer order build
-  checked-answer = ap (λ (x : Checked). x .answer) so ∙ answer-kept (checkAnswer order build) (orderAt order) (buildAt build)
-
-  module _ {count : ℕ} (done : checked .answer ≡ Done count) where
-    said-yes : checkAnswer order build ≡ Done count
-    said-yes = sym checked-answer ∙ done
-
-    pub handed-order : checked .order ≡ orderAt order
-    handed-order = ap (λ (x : Checked). x .order) so ∙ handed-on (checkAnswer order build) (orderAt order) (buildAt build) said-yes .0
-
-    pub handed-build : checked .build ≡ buildAt build
-    handed-build = ap (λ (x : Checked). x .build) so ∙ handed-on (checkAnswer order build) (orderAt order) (buildAt build) said-yes .1
-
-    -- both are as the check accepts them
-    pub handed-accepted : AcceptedBuild (checked .order) (checked .build)
-    handed-accepted = rw (handed-order, handed-build) (done-accepts order build (check-zero order build said-yes))
+    script-next e = pass-on (recordsIn script) (checkRules order build) (scriptRules (orderAt order) script places) (check-passes order build e)
 
 module _ (order build script output : List ℕ) where
   -- a run that the check refuses
@@ -99,11 +63,11 @@ module _ (order build script output : List ℕ) where
 -- the same, from the check that hands on what it read
 module _ (order build script output : List ℕ) (checked : Checked) (so : ChecksBoth order build checked) where
   pub ran-not : {cause : Refusal} → checked .answer ≡ Refused cause → Ran order build script output (Refused cause) output
-  ran-not e = ran-refused order build script output (sym (checked-answer order build checked so) ∙ e)
+  ran-not e = ran-refused order build script output (sym (answer-of order build checked so) ∙ e)
 
   pub ran-handed : {count : ℕ} {answer : Answer} {after : List ℕ} → checked .answer ≡ Done count → RanScript (checked .order) (checked .build) script output answer after
       → Ran order build script output answer after
   ran-handed {answer} {after} done ran =
-      ran-on order build script output (sym (checked-answer order build checked so) ∙ done)
+      ran-on order build script output (sym (answer-of order build checked so) ∙ done)
       (subst (λ (b : Build). RanScript (orderAt order) b script output answer after) (handed-build order build checked so done)
       (subst (λ (o : Order). RanScript o (checked .build) script output answer after) (handed-order order build checked so done) ran))

@@ -28,7 +28,7 @@ use Rattle.finish.proofs.Finish.{every-job-finishes}
 use Rattle.finish.proofs.Apart.{runs-apart}
 use Rattle.run.specs.Run.{runRules, runAnswer, runTicks, runOutput, Ran}
 use Rattle.run.specs.Claims.{RunDoneExactly, OneRunAnswer, RunningUnique, RunsOnlyFront, EachFinish, WritesFinishes, RunsIsolated, EmptyScript}
-use Rattle.run.proofs.Chain.{check-passes}
+use Rattle.inspect.proofs.Handed.{check-passes}
 
 module _ (order build script : List ℕ) (places : ℕ) where
   abbrev mine : List Rule

@@ -7,7 +7,8 @@ use lib.ListN.{length}
 use lib.Seq.{length-take-le}
 use native.Mathlib.Omega.{arith}
 use Rattle.script.specs.Script.{recordsIn}
-use Rattle.run.proofs.Chain.{handed-accepted, ran-not, ran-handed}
+use Rattle.inspect.proofs.Handed.{handed-accepted}
+use Rattle.run.proofs.Chain.{ran-not, ran-handed}
 use Rattle.run.proofs.Front.{ran-front}
 use Rattle.run.proofs.run.Statement.{statement}
 use Rattle.run.proofs.run.Tie as tie
