@@ -2,9 +2,10 @@
 use mathlib.Core.Path.{sym, _∙_}
 use lib.ListN.{length}
 use Rattle.jefkantu.specs.Word.{WordTells}
-use Rattle.jefkantu.specs.Claims.{ReadUnique, WriteUnique, PlanUnique, CheckUnique, RunUnique, ReadFormUnique, WriteFormUnique, ReadTells, WriteTells, PlanTells, CheckTells, RunTells, ReadFormTells, WriteFormTells}
+use Rattle.jefkantu.specs.Claims.{ReadUnique, WriteUnique, PlanUnique, CheckUnique, RunUnique, ReadFormUnique, WriteFormUnique, WriteSetUnique, ReadSetUnique, PartitionSetsUnique, ReadTells, WriteTells, PlanTells, CheckTells, RunTells, ReadFormTells, WriteFormTells, WriteSetTells, ReadSetTells, PartitionSetsTell}
 use Rattle.jefkantu.proofs.Word.{word-tells}
 use Rattle.jefkantu.proofs.Places.{read-fits, write-fits, plan-fits, check-fits, run-fits, read-text-fits, write-text-fits}
+use Rattle.jefkantu.proofs.Listed.{list-fits, write-list-fits, sets-fit}
 
 pub read-unique : ReadUnique
 unfolding ReadUnique
@@ -34,6 +35,18 @@ pub write-form-unique : WriteFormUnique
 unfolding WriteFormUnique
 write-form-unique order output word other after others r s = (r .answered ∙ sym (s .answered), r .written ∙ sym (s .written))
 
+pub write-set-unique : WriteSetUnique
+unfolding WriteSetUnique
+write-set-unique set output word other after others r s = (r .answered ∙ sym (s .answered), r .written ∙ sym (s .written))
+
+pub read-set-unique : ReadSetUnique
+unfolding ReadSetUnique
+read-set-unique text set word other after others r s = (r .answered ∙ sym (s .answered), r .written ∙ sym (s .written))
+
+pub partition-sets-unique : PartitionSetsUnique
+unfolding PartitionSetsUnique
+partition-sets-unique order build output word other after others r s = (r .answered ∙ sym (s .answered), r .written ∙ sym (s .written))
+
 pub read-tells : ReadTells
 unfolding ReadTells WordTells
 read-tells order numbers word after r = word-tells _ (read-fits order) word (r .answered)
@@ -61,3 +74,15 @@ read-form-tells processors text output word after r = word-tells _ (read-text-fi
 pub write-form-tells : WriteFormTells
 unfolding WriteFormTells WordTells
 write-form-tells order output word after r = word-tells _ (write-text-fits order (length output)) word (r .answered)
+
+pub write-set-tells : WriteSetTells
+unfolding WriteSetTells WordTells
+write-set-tells set output word after is r = word-tells _ (write-list-fits set (length output) is) word (r .answered)
+
+pub read-set-tells : ReadSetTells
+unfolding ReadSetTells WordTells
+read-set-tells text set word after r = word-tells _ (list-fits text) word (r .answered)
+
+pub partition-sets-tell : PartitionSetsTell
+unfolding PartitionSetsTell WordTells
+partition-sets-tell order build output word after r = word-tells _ (sets-fit order build (length output)) word (r .answered)

@@ -1,4 +1,4 @@
--- Every place and count that the seven functions answer fits its part of the word.
+-- Every place and count that the functions of orders, builds, runs and texts answer fits its part of the word.
 use mathlib.Core.Path.{_≡_, refl, ap}
 use mathlib.Core.List.{List, [], _∷_}
 use Prim.Native.Nat.{ℕ, _%_, _≤_, _<_}
@@ -53,7 +53,7 @@ spare-places : (s : List ℕ) (tasks : ℕ) → tasks ≤ 65_536 → PlacesFit (
 unfolding PlacesFit spareRules
 spare-places s tasks few = places-joined _ tasks (λ i l. (omega arith, tt))
 
-room-places : (size room : ℕ) → PlacesFit (roomRules size room)
+pub room-places : (size room : ℕ) → PlacesFit (roomRules size room)
 unfolding PlacesFit roomRules
 room-places size room = (omega arith, tt)
 
@@ -114,7 +114,7 @@ record-places o b few small =
     (places-joined _ (o .tasks) (λ i l. let p : i < 65_536 = omega arith in (p, (p, (p, (p, tt))))))))
 
 -- whatever bytes are checked
-check-places : (order build : List ℕ) → PlacesFit (checkRules order build)
+pub check-places : (order build : List ℕ) → PlacesFit (checkRules order build)
 unfolding checkRules buildRules orderAt buildAt
 check-places order build =
     let records = record-places (orderAt order) (buildAt build) (omega (arith, tasks-small order)) (omega (arith, header-fits build .1 .1 .1 .0)) in

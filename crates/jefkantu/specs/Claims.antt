@@ -10,11 +10,16 @@ use Rattle.inspect.specs.Rules.{checkAnswer}
 use Rattle.run.specs.Run.{runAnswer}
 use Rattle.text.specs.Read.{readTextAnswer}
 use Rattle.text_out.specs.Write.{writeTextAnswer}
+use Rattle.sets.specs.Sets.{IsSet}
+use Rattle.list.specs.Read.{readList}
+use Rattle.list_out.specs.Write.{writeListAnswer}
+use Rattle.partition_sets.specs.Given.{setsAnswer}
 use Rattle.jefkantu.specs.Word.{TellsAnswer}
 use Rattle.jefkantu.specs.Surface.{ReadsOrder, WritesColumns}
 use Rattle.jefkantu.specs.Builds.{PlansBuild, ChecksBuild}
 use Rattle.jefkantu.specs.Runs.{RunsScript}
 use Rattle.jefkantu.specs.Texts.{ReadsForm, WritesForm}
+use Rattle.jefkantu.specs.Lists.{WritesSet, ReadsSet, GivesPartitionSets}
 
 -- "the statement leaves one possible number, place, count and content of the caller's memory"
 unfoldable pub ReadUnique : Type 0
@@ -47,6 +52,17 @@ unfoldable pub WriteFormUnique : Type 0
 WriteFormUnique = (order output : List ℕ) (word other : ℕ) (after others : List ℕ) → WritesForm order output word after → WritesForm order output other others →
     (word ≡ other) × (after ≡ others)
 
+unfoldable pub WriteSetUnique : Type 0
+WriteSetUnique = (set : ℕ) (output : List ℕ) (word other : ℕ) (after others : List ℕ) → WritesSet set output word after → WritesSet set output other others →
+    (word ≡ other) × (after ≡ others)
+
+unfoldable pub ReadSetUnique : Type 0
+ReadSetUnique = (text : List ℕ) (set word other after others : ℕ) → ReadsSet text set word after → ReadsSet text set other others → (word ≡ other) × (after ≡ others)
+
+unfoldable pub PartitionSetsUnique : Type 0
+PartitionSetsUnique = (order build output : List ℕ) (word other : ℕ) (after others : List ℕ) →
+    GivesPartitionSets order build output word after → GivesPartitionSets order build output other others → (word ≡ other) × (after ≡ others)
+
 -- "Every answer has a number, a place and a count": all three come out of the word, whatever the input
 unfoldable pub ReadTells : Type 0
 ReadTells = (order numbers : List ℕ) (word : ℕ) (after : List ℕ) → ReadsOrder order numbers word after → TellsAnswer word (readOrder order .answer)
@@ -71,3 +87,13 @@ ReadFormTells = (processors : ℕ) (text output : List ℕ) (word : ℕ) (after 
 
 unfoldable pub WriteFormTells : Type 0
 WriteFormTells = (order output : List ℕ) (word : ℕ) (after : List ℕ) → WritesForm order output word after → TellsAnswer word (writeTextAnswer order (length output))
+
+unfoldable pub WriteSetTells : Type 0
+WriteSetTells = (set : ℕ) (output : List ℕ) (word : ℕ) (after : List ℕ) → IsSet set → WritesSet set output word after → TellsAnswer word (writeListAnswer set (length output))
+
+unfoldable pub ReadSetTells : Type 0
+ReadSetTells = (text : List ℕ) (set word after : ℕ) → ReadsSet text set word after → TellsAnswer word (readList text .answer)
+
+unfoldable pub PartitionSetsTell : Type 0
+PartitionSetsTell = (order build output : List ℕ) (word : ℕ) (after : List ℕ) →
+    GivesPartitionSets order build output word after → TellsAnswer word (setsAnswer order build (length output))

@@ -3,4 +3,5 @@ pub mod Surface
 pub mod Builds
 pub mod Runs
 pub mod Texts
+pub mod Lists
 pub mod Claims

@@ -8,6 +8,7 @@ ghost use Rattle.jefkantu.specs.Surface.{orderNumbers, ReadsOrder, Write
 ghost use Rattle.jefkantu.specs.Builds.{PlansBuild, ChecksBuild};
 ghost use Rattle.jefkantu.specs.Runs.{RunsScript};
 ghost use Rattle.jefkantu.specs.Texts.{ReadsForm, WritesForm};
+ghost use Rattle.jefkantu.specs.Lists.{WritesSet, ReadsSet, GivesPartitionSets};
 
 // "65,535 where none applies"
 const NO_PLACE: u64 = 65_535;
@@ -119,5 +120,36 @@ pub extern "C" fn jefkantu_write_text(order: &[u8], out: &mut [u8]) -> u64
     ensures { λ r. ⌜ WritesForm (now (order .entry)) (now (out .entry)) r (now (out .exit)) ⌝ }
 {
     let answer = text_out::write_text(order, out);
+    answer_word(answer)
+}
+
+// Writes a set of processors as a list into the front of the output.
+#[no_mangle]
+pub extern "C" fn jefkantu_write_list(set: u64, out: &mut [u8]) -> u64
+    ensures { λ r. ⌜ WritesSet set (now (out .entry)) r (now (out .exit)) ⌝ }
+{
+    let answer = list_out::write_list(set, out);
+    answer_word(answer)
+}
+
+// Reads a list of processors; the set is written only where it is accepted.
+#[no_mangle]
+pub extern "C" fn jefkantu_read_list(text: &[u8], set: &mut u64) -> u64
+    ensures { λ r. ⌜ ReadsSet (now (text .entry)) (now (set .entry)) r (now (set .exit)) ⌝ }
+{
+    let reading = list::read_list(text);
+    let answer = reading.answer;
+    if let Answer::Done(_) = answer {
+        *set = reading.set;
+    }
+    answer_word(answer)
+}
+
+// The set of each partition of an accepted build, into the front of the output.
+#[no_mangle]
+pub extern "C" fn jefkantu_partition_sets(order: &[u8], build: &[u8], out: &mut [u64]) -> u64
+    ensures { λ r. ⌜ GivesPartitionSets (now (order .entry)) (now (build .entry)) (now (out .entry)) r (now (out .exit)) ⌝ }
+{
+    let answer = partition_sets::partition_sets(order, build, out);
     answer_word(answer)
 }

@@ -6,6 +6,13 @@ use Rattle.text_facts.proofs.Refused.{lines-are, lines-refused-exactly, shape-r
 use Rattle.text_facts.proofs.Write.{one-text-writing, write-text-keeps, write-text-unique, text-of-order, short-text, no-leading-zeros}
 use Rattle.text_facts.proofs.Back.{text-read-back}
 use Rattle.text_facts.proofs.Cases.{cases}
+use Rattle.sets.proofs.Claims.{same-processors-are}
+use Rattle.list_facts.proofs.Read.{list-accepted-exactly, one-list, list-answers, read-list-unique}
+use Rattle.list_facts.proofs.Refused.{list-refuses, length-refused-exactly, break-refused-exactly, over-refused-exactly, fall-refused-exactly}
+use Rattle.list_facts.proofs.Written.{set-is-listed-exactly, writes-runs, one-row, written-list-short, same-bytes-exactly, one-list-writing, write-list-keeps, write-list-unique}
+use Rattle.list_facts.proofs.Back.{list-read-back}
+use Rattle.list_facts.proofs.Cases.{list-cases}
+use Rattle.partition_sets.proofs.Claims.{sets-given-exactly, sets-right, sets-apart, one-sets-answer, sets-keep, sets-unique}
 use Rattle.build_facts.proofs.Back.{length-right, reads-back}
 use Rattle.build_facts.proofs.Forth.{writes-back}
 use Rattle.demand.proofs.Meaning.{every-verdict-means, no-start-never}
@@ -25,7 +32,7 @@ use Rattle.finish.proofs.Finish.{every-job-finishes, finish-tick-is-one}
 use Rattle.condition.proofs.Kept.{accepted-is-kept}
 use Rattle.condition.proofs.Runs.{runs-in-time}
 use Rattle.points.proofs.Points as table
-use Rattle.promises.specs.Promises.{Condition1, Condition2, Condition3, OrderForm, Promises}
+use Rattle.promises.specs.Promises.{Condition1, Condition2, Condition3, OrderForm, ProcessorLists, Promises}
 
 pub condition-1 : Condition1
 condition-1 =
@@ -108,5 +115,36 @@ order-form =
       accident = cases;
     }
 
+pub processor-lists : ProcessorLists
+processor-lists =
+    record {
+      given = sets-given-exactly;
+      partitions = sets-right;
+      apart = sets-apart;
+      same-set = same-processors-are;
+      runs = writes-runs;
+      one-row = one-row;
+      longest = written-list-short;
+      same-bytes = same-bytes-exactly;
+      as-listed = list-accepted-exactly;
+      its-set = set-is-listed-exactly;
+      one-list = one-list;
+      back = list-read-back;
+      counts = list-answers;
+      refuses = list-refuses;
+      too-long = length-refused-exactly;
+      broken = break-refused-exactly;
+      over = over-refused-exactly;
+      falling = fall-refused-exactly;
+      written = one-list-writing;
+      checked = one-sets-answer;
+      writer-keeps = write-list-keeps;
+      giver-keeps = sets-keep;
+      one-reading = read-list-unique;
+      one-writing = write-list-unique;
+      one-giving = sets-unique;
+      worked-out = list-cases;
+    }
+
 pub promises : Promises
-promises = record { condition-1 = condition-1; condition-2 = condition-2; condition-3 = condition-3; order-form = order-form; points = table.points }
+promises = record { condition-1 = condition-1; condition-2 = condition-2; condition-3 = condition-3; order-form = order-form; processor-lists = processor-lists; points = table.points }

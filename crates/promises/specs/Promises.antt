@@ -1,8 +1,12 @@
--- What the customer was promised: the three conditions of acceptance in the customer's words, and the points on the line.
+-- What the customer was promised: the three conditions of acceptance in the customer's words, the requests that have landed, and the points on the line.
 -- Each field is a claim that stands, with its definitions, where its `use` line says; proofs/Promises.antt cites its proof.
 use Rattle.order_facts.specs.Claims.{OneReading, OneWriting, RefusedReadsZero, AcceptedExactly, ReadingGivesBack, BytesReadBack, WritesOnlyCountedFront, ReadingUnique, WritingUnique}
 use Rattle.text_facts.specs.Claims.{TextAcceptedExactly, OneValue, OneTime, OneTask, OneText, OneTextReading, LinesAre, LinesRefusedExactly, ShapeRefusedExactly, NumberRefusedExactly, OneTextWriting, WrittenIsText, WrittenIsShort, NoLeadingZeros, TextReadBack, ReadTextKeeps, WriteTextKeeps, ReadTextUnique, WriteTextUnique}
 use Rattle.text_facts.specs.Cases.{Cases}
+use Rattle.sets.specs.Claims.{SameProcessors}
+use Rattle.list_facts.specs.Claims.{ListAcceptedExactly, SetIsListed, OneList, ListAnswers, ListRefuses, LengthRefusedExactly, BreakRefusedExactly, OverRefusedExactly, FallRefusedExactly, WritesRuns, RunsOnce, WrittenListShort, SameBytesExactly, OneListWriting, ListReadBack, WriteListKeeps, ReadListUnique, WriteListUnique}
+use Rattle.list_facts.specs.Cases.{ListCases}
+use Rattle.partition_sets.specs.Claims.{SetsGivenExactly, SetsRight, SetsApart, OneSetsAnswer, SetsKeep, SetsUnique}
 use Rattle.build_facts.specs.Facts.{LengthRight, ReadsBack, WritesBack}
 use Rattle.demand.specs.Meaning.{EveryVerdictMeans, NoStartNever, AlonePasses}
 use Rattle.turns.specs.Claims.{TurnBeforeMeans, NextMeans}
@@ -111,10 +115,48 @@ pub record OrderForm : Type 0 where
   -- "7,5 is 750 ticks and 0.01 is 1."
   pub accident : Cases
 
+-- R-2: "Integrators pin processes with List Format from cpuset(7), as `0-3,7`."
+pub record ProcessorLists : Type 0 where
+  -- "each partition's set": of an accepted build, its processors, below M, as many as its volume, and none in two sets
+  pub given : SetsGivenExactly
+  pub partitions : SetsRight
+  pub apart : SetsApart
+  pub same-set : SameProcessors
+  -- "as a list: rising, touching numbers joined, a pair as a range, a single one alone"
+  pub runs : WritesRuns
+  pub one-row : RunsOnce
+  pub longest : WrittenListShort
+  -- "Two sets give the same written bytes exactly when equal."
+  pub same-bytes : SameBytesExactly
+  -- "Read any such list back, unsorted or overlapping too, as its set": accepted exactly when it is such a list
+  pub as-listed : ListAcceptedExactly
+  pub its-set : SetIsListed
+  pub one-list : OneList
+  pub back : ListReadBack
+  -- or refused, for its cause and at its place only: "the lowest place decides"
+  pub counts : ListAnswers
+  pub refuses : ListRefuses
+  pub too-long : LengthRefusedExactly
+  pub broken : BreakRefusedExactly
+  pub over : OverRefusedExactly
+  pub falling : FallRefusedExactly
+  -- "12 output too short, last"
+  pub written : OneListWriting
+  pub checked : OneSetsAnswer
+  -- only the counted front changes; one answer and one content of the memory
+  pub writer-keeps : WriteListKeeps
+  pub giver-keeps : SetsKeep
+  pub one-reading : ReadListUnique
+  pub one-writing : WriteListUnique
+  pub one-giving : SetsUnique
+  -- lists worked out
+  pub worked-out : ListCases
+
 pub record Promises : Type 0 where
   pub condition-1 : Condition1
   pub condition-2 : Condition2
   pub condition-3 : Condition3
   pub order-form : OrderForm
+  pub processor-lists : ProcessorLists
   -- "Points on the line", P1 to P12
   pub points : table.Points
