@@ -5,19 +5,23 @@
 // arrives as 75, -1 as a large number, 7.5 as 7. Hand numbers over by jefkantu_from_unsigned, jefkantu_from_signed,
 // jefkantu_from_real or jefkantu_from_text: whatever is no 32-bit number becomes JEFKANTU_NO_NUMBER, which is over every
 // limit, so that it is refused by name. Compile with -Wconversion, which finds the numbers that go round them. The text
-// of an order form goes to jefkantu_read_text as it was typed, every byte of it.
+// of an order form goes to jefkantu_read_text as it was typed, every byte of it. A set of processors is a 64-bit number,
+// and each one is a set; hand it over as it is. -1 arrives as all 64 processors, and 7.5 as 7, processors 0, 1 and 2:
+// -Wsign-conversion and -Wconversion find these.
 //
-// BYTES. An order, a build, a script and a text are bytes; docs/FORMATS.md has each bit of them, with a sample:
+// BYTES. An order, a build, a script, a text and a list are bytes; docs/FORMATS.md has each bit of them, with a sample:
 //   order:  3 bytes of header (version, M, n), then 9 for each task (m, T, D, C)
 //   build:  3 bytes of header (version, M, n, p), then 2 for each partition (volume, first processor), then 4 for each
 //           task (partition, rank, worst response)
 //   script: 6 bytes for each record (tick, task, length)
 //   text:   a line m;T;D;C for each task, ended by a line feed, its times in milliseconds: 7,5 and 7.50 are 750 ticks
+//   list:   the processors of a set, numbers and ranges with commas between them, as the kernel's cpuset(7) and taskset
+//           take them: 0-3,7. A set is a 64-bit word, processor 0 its lowest bit: 0x8F
 //
 // MEMORY. What is lent is what the proofs rest on:
 // - A length counts items from its pointer on, all of them readable, or writable where the call writes.
 // - With length 0 a pointer may be NULL: nothing is read or written through it (tests/c/numbers.c tries each).
-// - A pointer to uint32_t is aligned as a uint32_t is; bytes have no alignment.
+// - A pointer to uint32_t is aligned as a uint32_t is, one to uint64_t as a uint64_t is; bytes have no alignment.
 // - What a call writes to must overlap nothing else that it is lent, and nothing may change what it is lent while it
 //   runs. What a call only reads may overlap. Each function says what that means for it. Where it is broken, the
 //   proofs say nothing of that call: neither what it answers, nor what it leaves in what it writes to, nor that it ends.
@@ -47,6 +51,15 @@ extern "C" {
 
 // The length of the longest build, in bytes: 32 partitions and 32 tasks.
 #define JEFKANTU_MOST_BUILD_BYTES 195
+
+// The length of the longest list that is written, in bytes; no 0 byte ends it.
+#define JEFKANTU_MOST_LIST_BYTES 121
+
+// The length of the longest text that is read as a list, in bytes.
+#define JEFKANTU_MOST_LIST_TEXT_BYTES 1024
+
+// The most partitions of a build, and so the most sets of one.
+#define JEFKANTU_MOST_PARTITIONS 32
 
 // The most records of a script, and so the most finish ticks of a run.
 #define JEFKANTU_MOST_RECORDS 1024
@@ -90,10 +103,10 @@ static inline uint32_t jefkantu_from_text(const char *text) {
 // The number of an answer: 0 is done, any other is the cause of the refusal.
 static inline uint32_t jefkantu_number(uint64_t word) { return (uint32_t)(word % 65536); }
 
-// The place of an answer: the task, partition, record or line of a refusal, or JEFKANTU_NO_PLACE.
+// The place of an answer: the task, partition, record, line or byte of a refusal, or JEFKANTU_NO_PLACE.
 static inline uint32_t jefkantu_place(uint64_t word) { return (uint32_t)(word / 65536 % 65536); }
 
-// The count of an answer: bytes or finish ticks written, 0 on refusal.
+// The count of an answer: bytes, finish ticks or sets written, 0 on refusal.
 static inline uint32_t jefkantu_count(uint64_t word) { return (uint32_t)(word >> 32); }
 
 // Reads an order: 1 to 6 in turn, then task by task 7 to 10; a refusal leaves the numbers as they were.
@@ -142,6 +155,25 @@ uint64_t jefkantu_run(const uint8_t *order, size_t order_len,
                       const uint8_t *build, size_t build_len,
                       const uint8_t *script, size_t script_len,
                       uint32_t *out, size_t out_len);
+
+// Gives the set of each partition of a build: the check, then 12 where there are fewer places than partitions; a refusal
+// leaves the output as it was, and success writes one set per partition into its counted front. The length counts sets.
+// The output must overlap neither the build nor the order; these may overlap each other. Where it does, their bytes are
+// written over by the sets.
+uint64_t jefkantu_partition_sets(const uint8_t *order, size_t order_len,
+                                 const uint8_t *build, size_t build_len,
+                                 uint64_t *out, size_t out_len);
+
+// Writes a set as a list: rising, touching numbers joined, a pair as a range, a single one alone. Its one refusal is 12; it
+// leaves the output as it was, and success changes only the counted front. The empty set has the list of no bytes. Read
+// back, a list gives its set.
+// Nothing but the output is lent, so that it overlaps nothing.
+uint64_t jefkantu_write_list(uint64_t set, uint8_t *out, size_t out_len);
+
+// Reads a list, unsorted or overlapping too, and gives its set: 65, then whichever of 60, 61 and 62 has the lowest place;
+// a refusal leaves the set as it was. The count is 0. Nothing is skipped: a blank and a line feed are 60.
+// The set must not overlap the text, and is no NULL. Where it does overlap it, the text's bytes are written over.
+uint64_t jefkantu_read_list(const uint8_t *text, size_t text_len, uint64_t *set);
 
 #ifdef __cplusplus
 }

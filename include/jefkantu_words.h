@@ -20,7 +20,7 @@ static inline const char *jefkantu_words(uint32_t number) {
         case 9: return "D out of range";
         case 10: return "C out of range";
         case 11: return "first fit runs out";
-        case 12: return "output shorter than the order, build or text";
+        case 12: return "output shorter than the order, build, text, list or sets";
         case 13: return "the writer's columns differ in length";
         case 20: return "build under 3 bytes";
         case 21: return "build version not 1, M or n not the order's, or p not 1 to 32";
@@ -43,11 +43,16 @@ static inline const char *jefkantu_words(uint32_t number) {
         case 50: return "not m;T;D;C and a line feed: type m as digits, times in milliseconds as 7 or 7,5 or 7.50, and nothing else";
         case 51: return "a number over 1,048,575, times in ticks: type m up to M, and times up to 10000 milliseconds";
         case 52: return "more than 32 lines: type one for each task, at most 32";
+        case 60: return "no list could have this byte here, or the text stops short: write numbers and ranges with commas between them, as 0-3,7, and nothing else";
+        case 61: return "a number over 63: write processors as 0 to 63";
+        case 62: return "a range that falls: write its lower number first";
+        case 65: return "a text over 1,024 bytes: write each processor once";
         default: return NULL;
     }
 }
 
-// What the place of a refusal counts, "task", "partition", "record" or "line"; NULL where the number never has a place.
+// What the place of a refusal counts, "task", "partition", "record", "line" or "byte"; NULL where the number never has a
+// place.
 static inline const char *jefkantu_place_kind(uint32_t number) {
     switch (number) {
         case 6: return "task";
@@ -70,6 +75,9 @@ static inline const char *jefkantu_place_kind(uint32_t number) {
         case 45: return "record";
         case 50: return "line";
         case 51: return "line";
+        case 60: return "byte";
+        case 61: return "byte";
+        case 62: return "byte";
         default: return NULL;
     }
 }

@@ -1,12 +1,14 @@
-"""The planner of camera boxes for Python: the seven operations of the proved library libjefkantu.
+"""The planner of camera boxes for Python: the ten operations of the proved library libjefkantu.
 
 The library is libjefkantu.so in the directory JEFKANTU_LIB_DIR, or else beside this file, or else in the repository's
 target/python, where bindings/python/link writes it. This folder works wherever it is copied, with its causes.txt.
 
-Orders, builds and scripts are bytes, the text of an order form is bytes or a str; a refusal is raised as Refused. A
-number is a whole number or an error: nothing is cut, rounded or parsed on its way in. Where it fits 32 bits the library
-itself judges it; where it does not, or is no whole number, the error names its row and its field. The bytes of a call
-are copied first and its output is the call's own, so nothing that a call writes can overlap what it reads.
+Orders, builds and scripts are bytes, the text of an order form and a list of processors are bytes or a str; a refusal is
+raised as Refused. A number is a whole number or an error: nothing is cut, rounded or parsed on its way in. Where it fits
+32 bits the library itself judges it; where it does not, or is no whole number, the error names its row and its field. A
+set of processors is a whole number of 64 bits, processor 0 its lowest: set_of makes it of processors, and processors_of
+gives them. The bytes of a call are copied first and its output is the call's own, so nothing that a call writes can
+overlap what it reads.
 """
 
 import ctypes
@@ -14,11 +16,14 @@ import operator
 import os
 from collections.abc import Mapping, Set
 from pathlib import Path
-from typing import Any, Iterable, List, NamedTuple, Optional, Union
+from typing import Any, FrozenSet, Iterable, List, NamedTuple, Optional, Union
 
 MOST_ORDER_BYTES = 291
 MOST_TEXT_BYTES = 960
 MOST_BUILD_BYTES = 195
+MOST_LIST_BYTES = 121
+MOST_LIST_TEXT_BYTES = 1024
+MOST_PARTITIONS = 32
 MOST_RECORDS = 1024
 
 _HERE = Path(__file__).resolve().parent
@@ -26,6 +31,8 @@ _ORDER_NUMBERS = 130
 _NO_PLACE = 65535
 _RECORD_BYTES = 6
 _COLUMN_BITS = 32
+_PROCESSOR_BITS = 6
+_SET_BITS = 64
 _RECORD_BITS = {"tick": 20, "task": 5, "duration": 20}  # then 3 spare
 
 
@@ -33,7 +40,7 @@ class Cause(NamedTuple):
     """A number of the document's table "What comes back"."""
 
     number: int
-    place: Optional[str]  # what its place counts: "task", "partition", "record" or "line"
+    place: Optional[str]  # what its place counts: "task", "partition", "record", "line" or "byte"
     words: str
 
 
@@ -156,9 +163,8 @@ def read_text(processors: int, text: Union[str, bytes], room: int = MOST_ORDER_B
     task by task 7 to 10; 12 if over room bytes. Text goes in as it was typed, a str as its UTF-8 bytes: none is skipped
     or tidied. Read a file of it as bytes, for Python takes carriage returns out of what it reads as text."""
     processors = _number("processors", processors, _COLUMN_BITS)
-    data = text.encode("utf-8", "surrogatepass") if isinstance(text, str) else text
     out = _output(ctypes.c_uint8, room)
-    count = _count(_library.jefkantu_read_text(processors, *_lent("text", data), out, len(out)))
+    count = _count(_library.jefkantu_read_text(processors, *_lent("text", _typed(text)), out, len(out)))
     return bytes(out[:count])
 
 
@@ -187,6 +193,42 @@ def run(order: bytes, build: bytes, script: bytes, room: int = MOST_RECORDS) -> 
     lent = [*_lent("order", order), *_lent("build", build), *_lent("script", script)]
     count = _count(_library.jefkantu_run(*lent, out, len(out)))
     return list(out[:count])
+
+
+def partition_sets(order: bytes, build: bytes, room: int = MOST_PARTITIONS) -> List[int]:
+    """Gives the set of each partition of a build: the check, then 12 if over room."""
+    out = _output(ctypes.c_uint64, room)
+    count = _count(_library.jefkantu_partition_sets(*_lent("order", order), *_lent("build", build), out, len(out)))
+    return list(out[:count])
+
+
+def write_list(set: int, room: int = MOST_LIST_BYTES) -> str:
+    """Writes a set as a list, as 0-3,7: rising, touching numbers joined; 12 if over room bytes."""
+    set = _number("set", set, _SET_BITS)
+    out = _output(ctypes.c_uint8, room)
+    count = _count(_library.jefkantu_write_list(set, out, len(out)))
+    return bytes(out[:count]).decode("ascii")
+
+
+def read_list(text: Union[str, bytes]) -> int:
+    """Reads a list, unsorted or overlapping too, and gives its set: 65, then whichever of 60, 61 and 62 has the lowest
+    place. Nothing is skipped or tidied: take off the line feed of a file that the kernel wrote."""
+    out = ctypes.c_uint64()
+    _count(_library.jefkantu_read_list(*_lent("text", _typed(text)), out))
+    return out.value
+
+
+def set_of(processors: Iterable[int]) -> int:
+    """The set of processors from 0 to 63, in any order."""
+    items = list(processors) if isinstance(processors, Set) else _items("processors", processors)
+    numbers = [_number(f"processors, item {i}", value, _PROCESSOR_BITS) for i, value in enumerate(items)]
+    return sum(1 << number for number in {*numbers})
+
+
+def processors_of(set: int) -> FrozenSet[int]:
+    """The processors of a set."""
+    word = _number("set", set, _SET_BITS)
+    return frozenset(number for number in range(_SET_BITS) if word >> number & 1)
 
 
 def read_build(order: bytes, build: bytes) -> Build:
@@ -227,6 +269,11 @@ def _number(where: str, value: Any, bits: int) -> int:
         told = number if number.bit_length() <= 64 else f"a number of {number.bit_length()} bits"
         raise OverflowError(f"{where}: {told} is not from 0 to {(1 << bits) - 1}")
     return number
+
+
+def _typed(text: Union[str, bytes]) -> bytes:
+    """Text as its UTF-8 bytes; what is no str stays as it is."""
+    return text.encode("utf-8", "surrogatepass") if isinstance(text, str) else text
 
 
 def _items(where: str, values: Iterable) -> list:
@@ -301,7 +348,7 @@ def _load() -> ctypes.CDLL:
     library = ctypes.CDLL(str(_find()))
     size, data = ctypes.c_size_t, ctypes.c_char_p
     column, out = ctypes.POINTER(ctypes.c_uint32), ctypes.POINTER(ctypes.c_uint8)
-    numbers = ctypes.POINTER(ctypes.c_uint32 * _ORDER_NUMBERS)
+    numbers, sets = ctypes.POINTER(ctypes.c_uint32 * _ORDER_NUMBERS), ctypes.POINTER(ctypes.c_uint64)
     arguments = {
         "read_order": [data, size, numbers],
         "write_order": [ctypes.c_uint32, *[column, size] * 4, out, size],
@@ -310,6 +357,9 @@ def _load() -> ctypes.CDLL:
         "plan": [data, size, out, size],
         "check": [data, size] * 2,
         "run": [*[data, size] * 3, column, size],
+        "partition_sets": [*[data, size] * 2, sets, size],
+        "write_list": [ctypes.c_uint64, out, size],
+        "read_list": [data, size, sets],
     }
     for name, types in arguments.items():
         function = getattr(library, f"jefkantu_{name}")

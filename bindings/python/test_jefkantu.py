@@ -54,6 +54,7 @@ def calls(asked, words):
             lambda: jefkantu.plan(order, 0),
             lambda: jefkantu.check(order, b""),
             lambda: jefkantu.run(order, b"", b"\0", 0),
+            lambda: jefkantu.partition_sets(order, b"", 0),
         ]
     if asked == "plan":
         return [lambda: jefkantu.plan(data(words[0]), int(words[1]))]
@@ -66,9 +67,19 @@ def calls(asked, words):
         return [lambda: jefkantu.write_text(data(words[0]), int(words[1]))]
     if asked == "build":
         order, build = data(words[0]), data(words[1])
-        return [lambda: jefkantu.check(order, build), lambda: jefkantu.run(order, build, b"\0", 0)]
+        return [
+            lambda: jefkantu.check(order, build),
+            lambda: jefkantu.run(order, build, b"\0", 0),
+            lambda: jefkantu.partition_sets(order, build, 0),
+        ]
     if asked == "run":
         return [lambda: jefkantu.run(*map(data, words[:3]), int(words[3]))]
+    if asked == "sets":
+        return [lambda: jefkantu.partition_sets(*map(data, words[:2]), int(words[2]))]
+    if asked == "write_list":
+        return [lambda: jefkantu.write_list(*map(int, words))]
+    if asked == "read_list":
+        return [lambda: jefkantu.read_list(data(words[0]))]
     raise ValueError(f"{asked} asks nothing")
 
 
@@ -166,6 +177,73 @@ class Text(unittest.TestCase):
             jefkantu.read_text(4, "1;75;75;75\n1;75;75;7,505\n")
 
 
+class Lists(unittest.TestCase):
+    """Lists of processors: as their sets, or refused at their byte."""
+
+    def refused(self, number, byte, text):
+        with self.subTest(text=text[:40]), self.assertRaises(Refused) as caught:
+            jefkantu.read_list(text)
+        self.assertEqual((caught.exception.number, caught.exception.place), (number, byte))
+
+    def test_each_partition_has_its_set(self):
+        self.assertEqual(jefkantu.partition_sets(ORDER, BUILD), [0b11, 0b100])
+        self.assertEqual(jefkantu.partition_sets(ORDER, bytearray(BUILD), 2), [0b11, 0b100])
+        self.assertEqual([*map(jefkantu.write_list, jefkantu.partition_sets(ORDER, BUILD))], ["0-1", "2"])
+
+    def test_the_most_partitions(self):
+        order = jefkantu.write_order(Order(64, [Task(2, 10, 10, 10)] * 32))
+        sets = jefkantu.partition_sets(order, jefkantu.plan(order))
+        self.assertEqual(sets, [3 << 2 * i for i in range(jefkantu.MOST_PARTITIONS)])
+
+    def test_sets_are_written_and_read_back(self):
+        lists = ["", "0", "63", "0-1", "0-3,7", "0,2,4-5", "9-10,62-63", "0-63"]
+        sets = [0, 1, 1 << 63, 3, 0x8F, 0x35, 3 << 62 | 0x600, 2**64 - 1]
+        for written, word in zip(lists, sets):
+            self.assertEqual(jefkantu.write_list(word), written)
+            self.assertEqual(jefkantu.write_list(word, len(written)), written)
+            for given in [written, written.encode(), bytearray(written.encode()), memoryview(written.encode())]:
+                self.assertEqual(jefkantu.read_list(given), word)
+
+    def test_lists_of_others_are_read(self):
+        for given in ["7,0-3", "3,2,1,0,7", "0-2,1-3,7,7-7", "0007,00-03", "0,1,2,3,7"]:
+            self.assertEqual(jefkantu.read_list(given), 0x8F)
+
+    def test_longest_list_and_text(self):
+        longest = jefkantu.write_list(0xB6DB6DB6DB6DB6DB)
+        self.assertEqual(len(longest), jefkantu.MOST_LIST_BYTES)
+        self.assertEqual(jefkantu.read_list(longest), 0xB6DB6DB6DB6DB6DB)
+        zeros = "0" * jefkantu.MOST_LIST_TEXT_BYTES
+        self.assertEqual(jefkantu.read_list(zeros), 1)
+        self.refused(65, None, zeros + "0")
+        self.refused(60, len(zeros), zeros[1:] + ",")
+
+    def test_nothing_is_tidied(self):
+        for after in [" ", "\n", "\r\n", "\0", ":2", "x", "\u2013", "\uff17", "\u0667", "\xa0", "\ud800", ";"]:
+            self.refused(60, 5, "0-3,7" + after)
+        self.refused(60, 0, "\ufeff0-3,7")
+        self.refused(60, 0, " 0-3,7")
+        self.refused(60, 2, b"0,\xff")
+
+    def test_the_lowest_place_decides(self):
+        self.refused(61, 2, "1,0064")
+        self.refused(62, 2, "3-0,64,")
+        self.refused(61, 0, "64-0,")
+        self.refused(60, 2, "0,,3-0,64")
+
+    def test_a_refusal_tells_its_byte(self):
+        with self.assertRaisesRegex(Refused, "^refused 62 at byte 2: a range that falls: "):
+            jefkantu.read_list("3-0")
+
+    def test_sets_of_processors(self):
+        for word, processors in [(0, set()), (0x8F, {0, 1, 2, 3, 7}), (2**64 - 1, {*range(64)}), (1 << 63, {63})]:
+            self.assertEqual(jefkantu.processors_of(word), processors)
+            for given in [processors, frozenset(processors), sorted(processors) * 2, iter(processors)]:
+                self.assertEqual(jefkantu.set_of(given), word)
+        self.assertEqual(jefkantu.set_of([Whole(7), Whole(7)]), 0x80)
+        self.assertEqual(jefkantu.processors_of(Whole(0x80)), {7})
+        self.assertEqual(jefkantu.write_list(Whole(0x80)), "7")
+
+
 class Refusals(unittest.TestCase):
     def test_every_number_comes_through_with_its_place_and_words(self):
         seen = set()
@@ -260,8 +338,23 @@ class Numbers(unittest.TestCase):
                 with self.subTest(field=field, value=value):
                     self.refused(error, f"record 1, {field}", lambda: jefkantu.write_script(releases))
 
+    def test_a_set(self):
+        for value, error in [*UNFIT[1:], (2**64, OverflowError), (2**64 + 7, OverflowError)]:
+            with self.subTest(value=value):
+                self.refused(error, "set", lambda: jefkantu.write_list(value))
+                self.refused(error, "set", lambda: jefkantu.processors_of(value))
+
+    def test_processors_of_a_set(self):
+        for value, error in [*UNFIT, (64, OverflowError)]:
+            with self.subTest(value=value):
+                self.refused(error, "processors, item 1", lambda: jefkantu.set_of([7, value]))
+        for value in ["7", b"7", bytearray(b"7"), {7: 7}, 7, None]:
+            self.refused(TypeError, "processors", lambda: jefkantu.set_of(value))
+
     def test_room(self):
         for value, error in UNFIT:
+            self.refused(error, "room", lambda: jefkantu.partition_sets(ORDER, BUILD, value))
+            self.refused(error, "room", lambda: jefkantu.write_list(0, value))
             self.refused(error, "room", lambda: jefkantu.read_text(4, TEXT, value))
             self.refused(error, "room", lambda: jefkantu.write_text(ORDER, value))
             self.refused(error, "room", lambda: jefkantu.plan(ORDER, value))
@@ -314,6 +407,8 @@ class Buffers(unittest.TestCase):
         for other in [30, None, list(ORDER), [TEXT], array.array("H", ORDER)]:
             with self.subTest(other=other), self.assertRaisesRegex(TypeError, "^text: "):
                 jefkantu.read_text(4, other)
+            with self.subTest(other=other), self.assertRaisesRegex(TypeError, "^text: "):
+                jefkantu.read_list(other)
 
     def test_one_buffer_may_hold_them_all(self):
         whole = bytearray(ORDER + BUILD + SCRIPT)
@@ -327,8 +422,8 @@ class Buffers(unittest.TestCase):
 class Repository(unittest.TestCase):
     def test_limits_are_those_of_the_header(self):
         header = dict(re.findall(r"#define JEFKANTU_(\w+) (\d+)", text("include/jefkantu.h")))
-        for name in ["MOST_ORDER_BYTES", "MOST_TEXT_BYTES", "MOST_BUILD_BYTES", "MOST_RECORDS"]:
-            self.assertEqual(getattr(jefkantu, name), int(header[name]))
+        limits = {name: value for name, value in vars(jefkantu).items() if name.startswith("MOST_")}
+        self.assertEqual(limits, {name: int(value) for name, value in header.items() if name.startswith("MOST_")})
 
     def test_the_formats_page_has_every_cause_and_the_sample(self):
         page = text("docs/FORMATS.md")
@@ -354,6 +449,20 @@ class Repository(unittest.TestCase):
         for time, number in refused:
             with self.subTest(time=time), self.assertRaisesRegex(Refused, f"^refused {number} at line 0: "):
                 jefkantu.read_text(4, f"1;75;75;{time}\n")
+
+    def test_the_formats_page_reads_lists_as_the_library_does(self):
+        page = text("docs/FORMATS.md")
+        rows = re.findall(r"^\| (`.*`).* \| processors? ([-\d, and]+) \|$", page, re.MULTILINE)
+        lists = [(it, processors) for given, processors in rows for it in re.findall("`(.*?)`", given)]
+        self.assertEqual(len(lists), 9)
+        for given, processors in lists:
+            self.assertEqual(jefkantu.read_list(given), jefkantu.set_of(map(int, re.findall(r"\d+", processors))))
+        rows = re.findall(r"^\| (`.*`).* \| refused (6\d) at byte (\d+) \|$", page, re.MULTILINE)
+        refused = [(it, number, byte) for given, number, byte in rows for it in re.findall("`(.*?)`", given)]
+        self.assertEqual(len(refused), 14)
+        for given, number, byte in refused:
+            with self.subTest(given=given), self.assertRaisesRegex(Refused, f"^refused {number} at byte {byte}: "):
+                jefkantu.read_list(given)
 
     def test_a_copied_folder_works(self):
         here = Path(__file__).resolve().parent

@@ -85,6 +85,12 @@ static void nothing_lent(void) {
     answers("no order to plan", jefkantu_plan(NULL, 0, NULL, 0), 1);
     answers("no order to check", jefkantu_check(NULL, 0, NULL, 0), 1);
     answers("no order to run", jefkantu_run(NULL, 0, NULL, 0, NULL, 0, NULL, 0), 1);
+    answers("no order to give the sets of", jefkantu_partition_sets(NULL, 0, NULL, 0, NULL, 0), 1);
+    answers("no room for a list", jefkantu_write_list(1, NULL, 0), 12);
+    answers("an empty list needs none", jefkantu_write_list(0, NULL, 0), 0);
+    uint64_t set = 1;
+    answers("no list", jefkantu_read_list(NULL, 0, &set), 0);
+    expect("it is the empty set", set == 0);
     uint8_t order[ROOM], build[JEFKANTU_MOST_BUILD_BYTES];
     answers("no room", jefkantu_write_order(4, numbers[0], 0, numbers[0], 0, numbers[0], 0, numbers[0], 0, NULL, 0), 4);
     expect("an order", jefkantu_number(written_with(0, 4, order)) == 0);
@@ -94,6 +100,7 @@ static void nothing_lent(void) {
     answers("no build", jefkantu_check(order, ROOM, NULL, 0), 20);
     size_t size = jefkantu_count(jefkantu_plan(order, ROOM, build, sizeof build));
     answers("no script", jefkantu_run(order, ROOM, build, size, NULL, 0, NULL, 0), 0);
+    answers("no room for its sets", jefkantu_partition_sets(order, ROOM, build, size, NULL, 0), 12);
 }
 
 // Bytes need no alignment.
@@ -103,6 +110,12 @@ static void odd_addresses(void) {
     uint64_t word = jefkantu_plan(order + 1, ROOM, build + 1, JEFKANTU_MOST_BUILD_BYTES);
     expect("its build", jefkantu_number(word) == 0 && jefkantu_count(word) == 9);
     answers("that build", jefkantu_check(order + 1, ROOM, build + 1, jefkantu_count(word)), 0);
+    uint64_t set = 0;
+    word = jefkantu_partition_sets(order + 1, ROOM, build + 1, jefkantu_count(word), &set, 1);
+    expect("its set", jefkantu_number(word) == 0 && jefkantu_count(word) == 1 && set == 1);
+    word = jefkantu_write_list(set, build + 1, 1);
+    expect("its list", jefkantu_number(word) == 0 && jefkantu_count(word) == 1 && build[1] == '0');
+    answers("that list", jefkantu_read_list(build + 1, 1, &set), 0);
 }
 
 static int same(const char *text, const char *other) { return text != NULL && strcmp(text, other) == 0; }
@@ -112,6 +125,8 @@ static void words(void) {
     expect("24", same(jefkantu_place_kind(24), "partition"));
     expect("50", same(jefkantu_place_kind(50), "line") && same(jefkantu_place_kind(51), "line"));
     expect("52", same(jefkantu_words(52), "more than 32 lines: type one for each task, at most 32") && jefkantu_place_kind(52) == NULL);
+    expect("60", same(jefkantu_place_kind(60), "byte") && same(jefkantu_place_kind(61), "byte") && same(jefkantu_place_kind(62), "byte"));
+    expect("65", same(jefkantu_words(65), "a text over 1,024 bytes: write each processor once") && jefkantu_place_kind(65) == NULL);
     expect("46", same(jefkantu_words(46), "too few places for finish ticks") && jefkantu_place_kind(46) == NULL);
     expect("no such cause", jefkantu_words(0) == NULL && jefkantu_words(14) == NULL && jefkantu_words(65535) == NULL);
 }

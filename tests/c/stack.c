@@ -15,10 +15,10 @@ static ucontext_t here, there;
 static uint32_t processors, tasks;
 static uint32_t widths[TASKS], periods[TASKS], deadlines[TASKS], runs[TASKS];
 static uint8_t order[JEFKANTU_MOST_ORDER_BYTES], build[JEFKANTU_MOST_BUILD_BYTES], script[JEFKANTU_MOST_RECORDS * RECORD_BYTES];
-static uint8_t text[JEFKANTU_MOST_TEXT_BYTES];
-static size_t order_len, text_len, build_len, script_len, room, places;
+static uint8_t text[JEFKANTU_MOST_TEXT_BYTES], list[JEFKANTU_MOST_LIST_TEXT_BYTES + 1];
+static size_t order_len, text_len, list_len, build_len, script_len, room, places;
 static uint32_t numbers[1][JEFKANTU_ORDER_NUMBERS], finish[JEFKANTU_MOST_RECORDS];
-static uint64_t word;
+static uint64_t word, set, sets[JEFKANTU_MOST_PARTITIONS];
 
 static void call_nothing(void) {}
 
@@ -39,6 +39,14 @@ static void call_check(void) { word = jefkantu_check(order, order_len, build, bu
 static void call_run(void) {
     word = jefkantu_run(order, order_len, build, build_len, script, script_len, finish, places);
 }
+
+static void call_partition_sets(void) {
+    word = jefkantu_partition_sets(order, order_len, build, build_len, sets, places);
+}
+
+static void call_write_list(void) { word = jefkantu_write_list(set, list, room); }
+
+static void call_read_list(void) { word = jefkantu_read_list(list, list_len, &set); }
 
 // How far down a call writes on a stack of one colour.
 static size_t depth_on(uint8_t colour, void (*call)(void)) {
@@ -64,6 +72,7 @@ static size_t depth(void (*call)(void)) {
 }
 
 static size_t most_read, most_write, most_read_text, most_write_text, most_plan, most_check, most_run;
+static size_t most_partition_sets, most_write_list, most_read_list;
 static int failed;
 
 // Calls, and keeps the most; the answer must have the number. The first call is not measured: the linker may take part.
@@ -109,6 +118,10 @@ static void plan_tasks(uint32_t width, uint32_t period, uint32_t run) {
     calls("an order planned", call_plan, &most_plan, 0);
     build_len = jefkantu_count(word);
     calls("a build checked", call_check, &most_check, 0);
+    places = JEFKANTU_MOST_PARTITIONS;
+    calls("a build's sets", call_partition_sets, &most_partition_sets, 0);
+    places = 0;
+    calls("no place for its sets", call_partition_sets, &most_partition_sets, 12);
 }
 
 // The longest script: every task again and again, each some ticks after the one before it.
@@ -131,6 +144,7 @@ static void refuse_last(void) {
     build[build_len - 1] ^= 0x02;
     calls("a response that was invented", call_check, &most_check, 30);
     calls("a run of that build", call_run, &most_run, 30);
+    calls("the sets of that build", call_partition_sets, &most_partition_sets, 30);
     room = 0;
     calls("no room for a build", call_plan, &most_plan, 12);
     calls("no room for an order", call_write, &most_write, 12);
@@ -145,6 +159,32 @@ static void refuse_last(void) {
     calls("a text of that order", call_write_text, &most_write_text, 6);
     calls("a plan of that order", call_plan, &most_plan, 6);
     calls("a check of that order", call_check, &most_check, 6);
+    calls("the sets of that order's build", call_partition_sets, &most_partition_sets, 6);
+}
+
+// The longest lists, written and read, and refused at their ends.
+static void list_sets(void) {
+    set = UINT64_C(0xB6DB6DB6DB6DB6DB);
+    room = JEFKANTU_MOST_LIST_BYTES;
+    calls("the longest list written", call_write_list, &most_write_list, 0);
+    list_len = jefkantu_count(word);
+    calls("the longest list read", call_read_list, &most_read_list, 0);
+    list[list_len - 1] = '-';
+    calls("a list that stops short", call_read_list, &most_read_list, 60);
+    room--;
+    calls("no room for the longest list", call_write_list, &most_write_list, 12);
+    for (size_t i = 0; i < sizeof list; i++) list[i] = i % 2 == 0 ? '1' : ',';
+    list_len = sizeof list;
+    calls("a text over the longest", call_read_list, &most_read_list, 65);
+    list_len -= 2;
+    calls("the longest text of single digits", call_read_list, &most_read_list, 0);
+    list[list_len - 1] = ',';
+    calls("a comma for its last", call_read_list, &most_read_list, 60);
+    for (size_t i = 0; i < sizeof list; i++) list[i] = '0';
+    list_len = JEFKANTU_MOST_LIST_TEXT_BYTES;
+    calls("the longest number", call_read_list, &most_read_list, 0);
+    list[0] = '9';
+    calls("a number of many digits", call_read_list, &most_read_list, 61);
 }
 
 // Two of the widest tasks that no partition takes together.
@@ -182,6 +222,7 @@ int main(void) {
     run_longest(2000, 1, 1000);
     refuse_last();
     refuse_plan();
+    list_sets();
     tell("jefkantu_read_order", most_read);
     tell("jefkantu_write_order", most_write);
     tell("jefkantu_read_text", most_read_text);
@@ -189,5 +230,8 @@ int main(void) {
     tell("jefkantu_plan", most_plan);
     tell("jefkantu_check", most_check);
     tell("jefkantu_run", most_run);
+    tell("jefkantu_partition_sets", most_partition_sets);
+    tell("jefkantu_write_list", most_write_list);
+    tell("jefkantu_read_list", most_read_list);
     return failed;
 }

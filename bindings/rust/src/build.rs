@@ -38,6 +38,9 @@ impl Build {
     /// The length of the longest build, in bytes.
     pub const MOST_BYTES: usize = 195;
 
+    /// The most partitions of a build.
+    pub const MOST_PARTITIONS: usize = 32;
+
     /// Checks a build against an order, and gives its fields where every rule holds.
     pub fn read(order: &[u8], build: &[u8]) -> Result<Build, Refusal> {
         crate::check(order, build)?;

@@ -1,4 +1,4 @@
-//! The planner of camera boxes for Rust: the seven operations of the proved library libjefkantu.a.
+//! The planner of camera boxes for Rust: the ten operations of the proved library libjefkantu.a.
 //!
 //! ```
 //! use jefkantu::{plan, run, write_order, write_script, Build, Order, Release};
@@ -26,11 +26,26 @@
 //! # Ok::<(), Box<dyn std::error::Error>>(())
 //! ```
 //!
+//! Each partition has a set of processors, and a list of them to pin a process with, as `taskset --cpu-list` takes it:
+//!
+//! ```
+//! use jefkantu::{partition_sets, plan, read_list, write_list, write_order, Order, Set};
+//!
+//! let order = write_order(&Order::of(4, [[2, 10, 10, 4], [1, 10, 10, 10]])?)?;
+//! let lists: Vec<_> = partition_sets(&order, &plan(&order)?)?.into_iter().map(write_list).collect();
+//! assert_eq!(lists, ["0-1", "2"]);
+//!
+//! assert_eq!(read_list("7,0-2,3")?, Set::of([0, 1, 2, 3, 7])?);
+//! assert!(read_list("7,2-0").unwrap_err().to_string().starts_with("refused 62 at byte 4: a range that falls"));
+//! # Ok::<(), Box<dyn std::error::Error>>(())
+//! ```
+//!
 //! Numbers come in whole: `of` takes whole numbers of any width, signed or not, and refuses what 32 bits or the field do
 //! not hold; `as u32` would cut it. The borrows keep what a call writes apart from what it reads.
 #![deny(missing_docs, unsafe_code)]
 
 mod build;
+mod list;
 mod number;
 mod order;
 mod refusal;
@@ -40,6 +55,7 @@ mod surface;
 mod text;
 
 pub use build::{Build, Member, Partition};
+pub use list::{read_list, write_list, write_list_into, Set};
 pub use number::{column, NotHeld, Whole};
 pub use order::{Columns, Order, Task};
 pub use refusal::{Cause, Refusal};
@@ -115,6 +131,16 @@ pub fn run_into(
     out: &mut [u32],
 ) -> Result<usize, Refusal> {
     answer(surface::run(order, build, script, out))
+}
+
+/// Gives the set of each partition of a build: the check.
+pub fn partition_sets(order: &[u8], build: &[u8]) -> Result<Vec<Set>, Refusal> {
+    filled(Build::MOST_PARTITIONS, |out| partition_sets_into(order, build, out))
+}
+
+/// The sets of a build's partitions into the front of the caller's buffer, and their count: the check, then 12.
+pub fn partition_sets_into(order: &[u8], build: &[u8], out: &mut [Set]) -> Result<usize, Refusal> {
+    answer(surface::partition_sets(order, build, out))
 }
 
 /// What a call writes into the front of a buffer with enough room.

@@ -6,9 +6,9 @@ use std::fmt;
 #[derive(Clone, Debug, PartialEq, Eq, Hash)]
 #[non_exhaustive]
 pub struct NotHeld {
-    /// What has the field: `"order"`, `"task"` or `"record"`.
+    /// What has the field: `"order"`, `"task"`, `"record"` or `"item"`, of a set.
     pub kind: &'static str,
-    /// Which task or record, counted from 0, where it is one of many.
+    /// Which task, record or item, counted from 0, where it is one of many.
     pub row: Option<usize>,
     /// Its field, as `"period"`.
     pub field: &'static str,

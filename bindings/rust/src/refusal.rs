@@ -1,4 +1,4 @@
-//! What comes back where an order, a text, a build or a script is refused.
+//! What comes back where an order, a text, a build, a script or a list is refused.
 
 use std::fmt;
 
@@ -14,7 +14,7 @@ const TABLE: &str = include_str!("../../python/causes.txt");
 pub struct Cause {
     /// Its number.
     pub number: u16,
-    /// What its place counts, `"task"`, `"partition"`, `"record"` or `"line"`; none where it never has one.
+    /// What its place counts, `"task"`, `"partition"`, `"record"`, `"line"` or `"byte"`; none where it never has one.
     pub place: Option<&'static str>,
     /// Its words.
     pub words: &'static str,
@@ -45,7 +45,7 @@ impl Cause {
 pub struct Refusal {
     /// The number of its cause.
     pub number: u16,
-    /// The task, partition, record or line, counted from 0, where one applies.
+    /// The task, partition, record, line or byte, counted from 0, where one applies.
     pub place: Option<u16>,
 }
 

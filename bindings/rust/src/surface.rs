@@ -1,5 +1,6 @@
 //! The C names of libjefkantu.a, as include/jefkantu.h declares them; the crate's only unsafe blocks.
 
+use crate::list::Set;
 use crate::order::{Columns, Order};
 
 #[link(name = "jefkantu", kind = "static")]
@@ -48,6 +49,16 @@ extern "C" {
         out: *mut u32,
         out_len: usize,
     ) -> u64;
+    fn jefkantu_partition_sets(
+        order: *const u8,
+        order_len: usize,
+        build: *const u8,
+        build_len: usize,
+        out: *mut Set,
+        out_len: usize,
+    ) -> u64;
+    fn jefkantu_write_list(set: Set, out: *mut u8, out_len: usize) -> u64;
+    fn jefkantu_read_list(text: *const u8, text_len: usize, set: *mut Set) -> u64;
 }
 
 pub fn read_order(order: &[u8], numbers: &mut [u32; Order::NUMBERS]) -> u64 {
@@ -111,4 +122,28 @@ pub fn run(order: &[u8], build: &[u8], script: &[u8], out: &mut [u32]) -> u64 {
             out.len(),
         )
     }
+}
+
+pub fn partition_sets(order: &[u8], build: &[u8], out: &mut [Set]) -> u64 {
+    // SAFETY: each pointer is a live reference's, with its own length; the `&mut` overlaps nothing.
+    unsafe {
+        jefkantu_partition_sets(
+            order.as_ptr(),
+            order.len(),
+            build.as_ptr(),
+            build.len(),
+            out.as_mut_ptr(),
+            out.len(),
+        )
+    }
+}
+
+pub fn write_list(set: Set, out: &mut [u8]) -> u64 {
+    // SAFETY: the pointer is a live reference's, with its own length.
+    unsafe { jefkantu_write_list(set, out.as_mut_ptr(), out.len()) }
+}
+
+pub fn read_list(text: &[u8], set: &mut Set) -> u64 {
+    // SAFETY: each pointer is a live reference's, with its own length; the `&mut` overlaps nothing.
+    unsafe { jefkantu_read_list(text.as_ptr(), text.len(), set) }
 }

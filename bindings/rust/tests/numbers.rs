@@ -1,7 +1,7 @@
 //! Numbers that do not fit: each is refused with its row and its field, and none is cut.
 
 use jefkantu::{column, read_text, write_order, write_script};
-use jefkantu::{NotHeld, NotRead, Order, Release, Task, Whole};
+use jefkantu::{NotHeld, NotRead, Order, Release, Set, Task, Whole};
 
 /// 2^32 + 75
 const LARGE: u64 = (1 << 32) + 75;
@@ -45,6 +45,7 @@ fn refused_everywhere<N: Whole + From<u8>>(number: N) {
         record[at] = number;
         told(Release::of(record[0], record[1], record[2]), None, field, &text);
     }
+    told(Set::of([four, number]), Some(1), "processor", &text);
 }
 
 #[test]
@@ -100,12 +101,22 @@ fn numbers_over_their_field_make_no_script() {
 }
 
 #[test]
+fn processors_over_63_are_in_no_set() {
+    assert_eq!(Set::of([63u8, 0, 63]), Ok(Set(1 << 63 | 1)));
+    for number in [64, 255, i64::from(u32::MAX), 1 << 32, -64, i64::MIN] {
+        told(Set::of([0, 1, number]), Some(2), "processor", &number.to_string());
+    }
+}
+
+#[test]
 fn the_words_name_row_field_and_number() {
     let told = Order::of(4, [[1, 10, 10, 4], [1, 10, -1, 4]]).unwrap_err().to_string();
     assert_eq!(told, "task 1, deadline: -1 is not from 0 to 4294967295");
     let over = Release { tick: 0, task: 32, duration: 1 };
     let told = write_script(&[over]).unwrap_err().to_string();
     assert_eq!(told, "record 0, task: 32 is not from 0 to 31");
+    let told = Set::of([7, 64]).unwrap_err().to_string();
+    assert_eq!(told, "item 1, processor: 64 is not from 0 to 63");
     let told = read_text(LARGE, "").unwrap_err().to_string();
     assert_eq!(told, "order, processors: 4294967371 is not from 0 to 4294967295");
     assert_eq!(

@@ -1,7 +1,8 @@
 //! Each line of bindings/refusals.txt: its number, its place, and the caller's buffer as it was.
 
-use jefkantu::{check, plan_into, read_order, read_text_into, run_into, write_columns_into};
-use jefkantu::{write_text_into, Cause, Columns, NotRead, Refusal};
+use jefkantu::{check, partition_sets_into, plan_into, read_list, read_order, read_text_into};
+use jefkantu::{run_into, write_columns_into, write_list_into, write_text_into};
+use jefkantu::{Cause, Columns, NotRead, Refusal, Set};
 use std::collections::BTreeSet;
 
 const ORDER: &str = "108180040001400014000080020001c0001a000080020001c0001a000080";
@@ -73,6 +74,15 @@ fn text_written(order: &[u8], room: &str) -> Refusal {
     kept(0xA5, room, |out| write_text_into(order, out))
 }
 
+fn sets_given(order: &[u8], build: &[u8], room: &str) -> Refusal {
+    kept(Set(0xA5A5_A5A5_A5A5_A5A5), room, |out| partition_sets_into(order, build, out))
+}
+
+fn list_written(set: &str, room: &str) -> Refusal {
+    let set = Set(set.parse().expect("a set"));
+    kept(0xA5, room, |out| write_list_into(set, out))
+}
+
 /// What each operation that is asked answers.
 fn refusals(asked: &[&str]) -> Vec<Refusal> {
     match *asked {
@@ -80,7 +90,8 @@ fn refusals(asked: &[&str]) -> Vec<Refusal> {
             let order = bytes(order);
             let read = read_order(&order).expect_err("a refusal");
             let (text, planned) = (text_written(&order, "0"), planned(&order, "0"));
-            vec![read, text, planned, checked(&order, &[]), ran(&order, &[], &[0], "0")]
+            let (checked, ran) = (checked(&order, &[]), ran(&order, &[], &[0], "0"));
+            vec![read, text, planned, checked, ran, sets_given(&order, &[], "0")]
         }
         ["read_text", processors, text, room] => vec![text_read(processors, &bytes(text), room)],
         ["write_text", order, room] => vec![text_written(&bytes(order), room)],
@@ -88,11 +99,15 @@ fn refusals(asked: &[&str]) -> Vec<Refusal> {
         ["write", processors, m, t, d, c, room] => vec![written(processors, [m, t, d, c], room)],
         ["build", order, build] => {
             let (order, build) = (bytes(order), bytes(build));
-            vec![checked(&order, &build), ran(&order, &build, &[0], "0")]
+            let (checked, ran) = (checked(&order, &build), ran(&order, &build, &[0], "0"));
+            vec![checked, ran, sets_given(&order, &build, "0")]
         }
         ["run", order, build, script, room] => {
             vec![ran(&bytes(order), &bytes(build), &bytes(script), room)]
         }
+        ["sets", order, build, room] => vec![sets_given(&bytes(order), &bytes(build), room)],
+        ["write_list", set, room] => vec![list_written(set, room)],
+        ["read_list", text] => vec![read_list(bytes(text)).expect_err("a refusal")],
         _ => panic!("{asked:?} asks nothing"),
     }
 }

@@ -1,7 +1,7 @@
 //! The sample order of document 01: written, read back, planned, checked and run.
 
 use jefkantu::{check, plan, plan_into, read_order, run, run_into, write_order, write_order_into};
-use jefkantu::{write_script, Build, Cause, Member, Order, Partition, Release, Task};
+use jefkantu::{write_script, Build, Cause, Member, Order, Partition, Release, Set, Task};
 
 const ORDER: [u8; 30] = [
     0x10, 0x81, 0x80, //
@@ -122,6 +122,9 @@ fn limits_are_those_of_the_header() {
         ("ORDER_BYTES", Order::MOST_BYTES),
         ("TEXT_BYTES", Order::MOST_TEXT_BYTES),
         ("BUILD_BYTES", Build::MOST_BYTES),
+        ("LIST_BYTES", Set::MOST_LIST_BYTES),
+        ("LIST_TEXT_BYTES", Set::MOST_LIST_TEXT_BYTES),
+        ("PARTITIONS", Build::MOST_PARTITIONS),
         ("RECORDS", Release::MOST_RECORDS),
     ] {
         assert!(header.contains(&format!("#define JEFKANTU_MOST_{name} {value}\n")));
