@@ -74,6 +74,10 @@ pub enum Cause {
     LineShape = 50,
     LineNumber = 51,
     LineCount = 52,
+    ListShape = 60,
+    ListNumber = 61,
+    ListRange = 62,
+    ListLength = 65,
 }
 
 /// A cause, and where it was found.
@@ -89,7 +93,7 @@ impl Cause {
         Refusal { cause: self, place: None }
     }
 
-    /// This cause at a task, partition, record or line.
+    /// This cause at a task, partition, record, line or byte.
     pub fn at(self, place: usize) -> Refusal {
         Refusal { cause: self, place: Some(place) }
     }

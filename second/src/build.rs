@@ -3,6 +3,7 @@
 use crate::bits::Layout;
 use crate::order::Order;
 use crate::response::Roster;
+use crate::set;
 
 /// A run of processors.
 #[derive(Clone, Copy, Debug, PartialEq, Eq)]
@@ -15,6 +16,11 @@ impl Partition {
     /// The first processor past the partition.
     pub fn end(&self) -> u32 {
         self.first + self.volume
+    }
+
+    /// Its processors; it is not empty.
+    pub fn set(&self) -> u64 {
+        set::between(self.first, self.end() - 1)
     }
 
     /// Whether the two have a processor in common; neither is empty.

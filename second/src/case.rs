@@ -15,17 +15,23 @@ pub enum Operation {
     Run,
     ReadText,
     WriteText,
+    WriteList,
+    ReadList,
+    PartitionSets,
 }
 
 impl Operation {
     /// The largest number that there is.
-    pub const MOST: u16 = 52;
+    pub const MOST: u16 = 65;
 
     /// Operations that are drawn and counted together, so that each group keeps its cases.
-    const GROUPS: [&[Operation]; 3] = [
+    const GROUPS: [&[Operation]; 6] = [
         &[Operation::Read, Operation::Write, Operation::Plan, Operation::Check, Operation::Run],
         &[Operation::ReadText],
         &[Operation::WriteText],
+        &[Operation::WriteList],
+        &[Operation::ReadList],
+        &[Operation::PartitionSets],
     ];
 
     pub fn all() -> Vec<Operation> {
@@ -41,7 +47,18 @@ impl Operation {
     }
 
     pub fn name(self) -> &'static str {
-        ["read", "write", "plan", "check", "run", "read_text", "write_text"][self as usize]
+        match self {
+            Operation::Read => "read",
+            Operation::Write => "write",
+            Operation::Plan => "plan",
+            Operation::Check => "check",
+            Operation::Run => "run",
+            Operation::ReadText => "read_text",
+            Operation::WriteText => "write_text",
+            Operation::WriteList => "write_list",
+            Operation::ReadList => "read_list",
+            Operation::PartitionSets => "partition_sets",
+        }
     }
 
     /// Whether the definition lists a number among this operation's answers.
@@ -54,6 +71,9 @@ impl Operation {
             Operation::Run => matches!(number, 0..=10 | 20..=30 | 40..=46),
             Operation::ReadText => matches!(number, 0 | 3 | 4 | 7..=10 | 12 | 50..=52),
             Operation::WriteText => matches!(number, 0..=10 | 12),
+            Operation::WriteList => matches!(number, 0 | 12),
+            Operation::ReadList => matches!(number, 0 | 60..=62 | 65),
+            Operation::PartitionSets => matches!(number, 0..=10 | 12 | 20..=30),
         }
     }
 }
@@ -68,6 +88,9 @@ pub enum Case {
     Run { order: Vec<u8>, build: Vec<u8>, script: Vec<u8>, room: usize },
     ReadText { processors: u32, text: Vec<u8>, room: usize },
     WriteText { order: Vec<u8>, room: usize },
+    WriteList { set: u64, room: usize },
+    ReadList { text: Vec<u8> },
+    PartitionSets { order: Vec<u8>, build: Vec<u8>, room: usize },
 }
 
 /// An answer, and the memory around and in the output afterwards.
@@ -76,6 +99,7 @@ pub struct Outcome {
     pub answer: Answer,
     pub bytes: Vec<u8>,
     pub words: Vec<u32>,
+    pub sets: Vec<u64>,
 }
 
 impl Outcome {
@@ -89,12 +113,19 @@ impl Outcome {
         within(&self.words)
     }
 
+    /// The sets of the output, without the margins.
+    pub fn output_sets(&self) -> &[u64] {
+        within(&self.sets)
+    }
+
     /// The first cell, counted from the output's front, in which the memory differs.
     pub fn first_difference(&self, other: &Outcome) -> Option<isize> {
         let mut bytes = self.bytes.iter().zip(&other.bytes);
         let mut words = self.words.iter().zip(&other.words);
+        let mut sets = self.sets.iter().zip(&other.sets);
         let cell = bytes.position(|(a, b)| a != b);
-        let cell = cell.or_else(|| words.position(|(a, b)| a != b))?;
+        let cell = cell.or_else(|| words.position(|(a, b)| a != b));
+        let cell = cell.or_else(|| sets.position(|(a, b)| a != b))?;
         Some(cell as isize - MARGIN as isize)
     }
 }
@@ -112,6 +143,9 @@ impl Case {
             Case::Run { .. } => Operation::Run,
             Case::ReadText { .. } => Operation::ReadText,
             Case::WriteText { .. } => Operation::WriteText,
+            Case::WriteList { .. } => Operation::WriteList,
+            Case::ReadList { .. } => Operation::ReadList,
+            Case::PartitionSets { .. } => Operation::PartitionSets,
         }
     }
 
@@ -122,7 +156,7 @@ impl Case {
 
     /// What a program makes of the case, over memory that is filled with such words.
     pub fn outcome_over(&self, program: &impl Program, fill: fn(&mut Random) -> u64) -> Outcome {
-        let (mut bytes, mut words) = (Vec::new(), Vec::new());
+        let (mut bytes, mut words, mut sets) = (Vec::new(), Vec::new(), Vec::new());
         let answer = match self {
             Case::Read { order } => {
                 words = memory(Order::NUMBERS, fill, |word| word as u32);
@@ -151,17 +185,43 @@ impl Case {
                 bytes = memory(*room, fill, |word| word as u8);
                 program.write_text(order, inside(&mut bytes))
             }
+            Case::WriteList { set, room } => {
+                bytes = memory(*room, fill, |word| word as u8);
+                program.write_list(*set, inside(&mut bytes))
+            }
+            Case::ReadList { text } => {
+                sets = memory(1, fill, |word| word);
+                program.read_list(text, &mut sets[MARGIN])
+            }
+            Case::PartitionSets { order, build, room } => {
+                sets = memory(*room, fill, |word| word);
+                program.partition_sets(order, build, inside(&mut sets))
+            }
         };
-        Outcome { answer, bytes, words }
+        Outcome { answer, bytes, words, sets }
     }
 
-    /// The case that reads back what was written as text, and must give this order.
-    pub fn read_back(&self, outcome: &Outcome) -> Option<(Case, &[u8])> {
-        let Case::WriteText { order, .. } = self else { return None };
-        let processors = Order::read(order).ok()?.processors;
-        let text = outcome.output_bytes()[..outcome.answer.count as usize].to_vec();
-        let read = Case::ReadText { processors, text, room: order.len() };
-        (outcome.answer.number == 0).then_some((read, order))
+    /// The case that reads back what was written as text or as a list.
+    pub fn read_back(&self, outcome: &Outcome) -> Option<Case> {
+        let written = || outcome.output_bytes()[..outcome.answer.count as usize].to_vec();
+        match self {
+            _ if outcome.answer.number != 0 => None,
+            Case::WriteText { order, .. } => {
+                let processors = Order::read(order).ok()?.processors;
+                Some(Case::ReadText { processors, text: written(), room: order.len() })
+            }
+            Case::WriteList { .. } => Some(Case::ReadList { text: written() }),
+            _ => None,
+        }
+    }
+
+    /// Whether what was written came back by such a case.
+    pub fn came_back(&self, read: &Outcome) -> bool {
+        match self {
+            Case::WriteText { order, .. } => read.output_bytes() == order,
+            Case::WriteList { set, .. } => read.output_sets() == [*set],
+            _ => true,
+        }
     }
 
     /// The case and its outcome as a line of text, as the README says.
@@ -182,12 +242,19 @@ impl Case {
             Case::ReadText { processors, text, room } => {
                 format!("{processors} {} {room}", hex(text))
             }
+            Case::WriteList { set, room } => format!("{} {room}", hex_sets(&[*set])),
+            Case::ReadList { text } => hex(text),
+            Case::PartitionSets { order, build, room } => {
+                format!("{} {} {room}", hex(order), hex(build))
+            }
         };
         let Answer { number, place, count } = outcome.answer;
         let counted = count as usize;
         let written = match self {
             Case::Read { .. } if number == 0 => hex_words(outcome.output_words()),
-            Case::Read { .. } | Case::Check { .. } => hex(&[]),
+            Case::ReadList { .. } if number == 0 => hex_sets(outcome.output_sets()),
+            Case::Read { .. } | Case::Check { .. } | Case::ReadList { .. } => hex(&[]),
+            Case::PartitionSets { .. } => hex_sets(&outcome.output_sets()[..counted]),
             Case::Run { .. } => hex_words(&outcome.output_words()[..counted]),
             _ => hex(&outcome.output_bytes()[..counted]),
         };
@@ -226,5 +293,11 @@ fn hex(bytes: &[u8]) -> String {
 /// Eight digits a word; `-` for none.
 fn hex_words(words: &[u32]) -> String {
     let bytes = words.iter().flat_map(|word| word.to_be_bytes());
+    hex(&bytes.collect::<Vec<u8>>())
+}
+
+/// Sixteen digits a set; `-` for none.
+fn hex_sets(sets: &[u64]) -> String {
+    let bytes = sets.iter().flat_map(|set| set.to_be_bytes());
     hex(&bytes.collect::<Vec<u8>>())
 }

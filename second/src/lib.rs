@@ -13,18 +13,21 @@ pub mod counted;
 pub mod fit;
 pub mod generate;
 pub mod library;
+pub mod list;
 pub mod machine;
 pub mod options;
 pub mod order;
 pub mod program;
 pub mod response;
 pub mod script;
+pub mod set;
 pub mod speed;
 pub mod tally;
 pub mod text;
 pub mod vectors;
 
 use answer::{Answer, Cause, Refusal};
+use build::Partition;
 use order::Order;
 
 /// Reads an order into M, n and 32 times (m, T, D, C), zero past its n tasks.
@@ -81,6 +84,27 @@ pub fn read_text(processors: u32, text: &[u8], out: &mut [u8]) -> Answer {
 pub fn write_text(order: &[u8], out: &mut [u8]) -> Answer {
     let text = Order::read(order).map(|order| text::write(&order));
     Answer::from(text.and_then(|text| put(&text, out, Cause::Output)))
+}
+
+/// Writes the list of a set.
+pub fn write_list(set: u64, out: &mut [u8]) -> Answer {
+    Answer::from(put(&list::write(set), out, Cause::Output))
+}
+
+/// Reads a list as its set, which is written only where it is accepted.
+pub fn read_list(text: &[u8], set: &mut u64) -> Answer {
+    let reading = list::read(text);
+    Answer::from(reading.map(|read| {
+        *set = read;
+        0
+    }))
+}
+
+/// The set of each partition of an accepted build.
+pub fn partition_sets(order: &[u8], build: &[u8], out: &mut [u64]) -> Answer {
+    let sets = check::check(order, build)
+        .map(|(_, build)| build.partitions.iter().map(Partition::set).collect::<Vec<u64>>());
+    Answer::from(sets.and_then(|sets| put(&sets, out, Cause::Output)))
 }
 
 /// Replaces the front of the output; refused where the output is too short for it.

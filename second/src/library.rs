@@ -41,6 +41,12 @@ surface! {
     "text" fn jefkantu_write_text(
         order: *const u8, order_len: usize, out: *mut u8, out_len: usize,
     );
+    "lists" fn jefkantu_write_list(set: u64, out: *mut u8, out_len: usize);
+    "lists" fn jefkantu_read_list(text: *const u8, text_len: usize, set: *mut u64);
+    "lists" fn jefkantu_partition_sets(
+        order: *const u8, order_len: usize, build: *const u8, build_len: usize,
+        out: *mut u64, out_len: usize,
+    );
 }
 
 #[cfg_attr(
@@ -49,7 +55,8 @@ surface! {
         feature = "plan",
         feature = "check",
         feature = "run",
-        feature = "text"
+        feature = "text",
+        feature = "lists"
     ),
     link(name = "jefkantu", kind = "static")
 )]
@@ -98,5 +105,21 @@ impl Program for Library {
     fn write_text(&self, order: &[u8], out: &mut [u8]) -> Answer {
         let (to, room) = (out.as_mut_ptr(), out.len());
         Answer::unpack(unsafe { jefkantu_write_text(order.as_ptr(), order.len(), to, room) })
+    }
+
+    fn write_list(&self, set: u64, out: &mut [u8]) -> Answer {
+        Answer::unpack(unsafe { jefkantu_write_list(set, out.as_mut_ptr(), out.len()) })
+    }
+
+    fn read_list(&self, text: &[u8], set: &mut u64) -> Answer {
+        Answer::unpack(unsafe { jefkantu_read_list(text.as_ptr(), text.len(), set) })
+    }
+
+    fn partition_sets(&self, order: &[u8], build: &[u8], out: &mut [u64]) -> Answer {
+        let (from, length) = (build.as_ptr(), build.len());
+        let (to, room) = (out.as_mut_ptr(), out.len());
+        Answer::unpack(unsafe {
+            jefkantu_partition_sets(order.as_ptr(), order.len(), from, length, to, room)
+        })
     }
 }

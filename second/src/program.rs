@@ -12,6 +12,9 @@ pub trait Program {
     fn run(&self, order: &[u8], build: &[u8], script: &[u8], out: &mut [u32]) -> Answer;
     fn read_text(&self, processors: u32, text: &[u8], out: &mut [u8]) -> Answer;
     fn write_text(&self, order: &[u8], out: &mut [u8]) -> Answer;
+    fn write_list(&self, set: u64, out: &mut [u8]) -> Answer;
+    fn read_list(&self, text: &[u8], set: &mut u64) -> Answer;
+    fn partition_sets(&self, order: &[u8], build: &[u8], out: &mut [u64]) -> Answer;
 }
 
 /// This one.
@@ -44,5 +47,17 @@ impl Program for Second {
 
     fn write_text(&self, order: &[u8], out: &mut [u8]) -> Answer {
         crate::write_text(order, out)
+    }
+
+    fn write_list(&self, set: u64, out: &mut [u8]) -> Answer {
+        crate::write_list(set, out)
+    }
+
+    fn read_list(&self, text: &[u8], set: &mut u64) -> Answer {
+        crate::read_list(text, set)
+    }
+
+    fn partition_sets(&self, order: &[u8], build: &[u8], out: &mut [u64]) -> Answer {
+        crate::partition_sets(order, build, out)
     }
 }

@@ -48,15 +48,15 @@ impl fmt::Display for Tally {
     fn fmt(&self, f: &mut fmt::Formatter) -> fmt::Result {
         write!(f, "number")?;
         for operation in &self.operations {
-            write!(f, "{:>11}", operation.name())?;
+            write!(f, "{:>15}", operation.name())?;
         }
-        writeln!(f, "{:>11}", "all")?;
+        writeln!(f, "{:>15}", "all")?;
         for (number, total) in self.totals(&self.operations) {
             write!(f, "{number:>6}")?;
             for &operation in &self.operations {
-                write!(f, "{:>11}", self.of(number, operation))?;
+                write!(f, "{:>15}", self.of(number, operation))?;
             }
-            writeln!(f, "{total:>11}")?;
+            writeln!(f, "{total:>15}")?;
         }
         let (number, total) = self.rarest();
         writeln!(f, "rarest, 28 aside: {number}, {total} times")

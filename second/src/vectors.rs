@@ -4,6 +4,7 @@ use crate::case::{Case, Operation, Outcome};
 use crate::order::Order;
 use crate::program::Second;
 use crate::script::Record;
+use crate::set;
 use crate::tally::Tally;
 
 /// How vectors are written.
@@ -42,7 +43,7 @@ impl Form {
 enum Kind {
     /// A short script or none.
     Short,
-    /// That, done, and with many tasks.
+    /// That, done, and with many tasks, lines or items.
     Many,
     /// A script of the most records there can be, or more: done with many tasks, or refused itself.
     Long,
@@ -52,16 +53,18 @@ impl Kind {
     const ALL: [Kind; 3] = [Kind::Short, Kind::Many, Kind::Long];
     /// The most records of a short script.
     const SHORT: usize = 64;
-    /// The least of many tasks.
+    /// The least of many tasks, lines or items.
     const MANY: usize = 4;
     /// The longest text that is taken, in bytes.
     const TEXT: usize = 1_500;
 
     fn of(case: &Case, number: u16) -> Option<Kind> {
-        if matches!(case, Case::ReadText { text, .. } if text.len() > Kind::TEXT) {
-            return None;
+        if let Case::ReadText { text, .. } | Case::ReadList { text } = case {
+            if text.len() > Kind::TEXT {
+                return None;
+            }
         }
-        let many = tasks(case) >= Kind::MANY;
+        let many = parts(case) >= Kind::MANY;
         match (records(case), number) {
             (0..=Kind::SHORT, 0) if many => Some(Kind::Many),
             (0..=Kind::SHORT, _) => Some(Kind::Short),
@@ -131,16 +134,19 @@ fn records(case: &Case) -> usize {
     }
 }
 
-/// The tasks that a case's order or first column has room for, or the lines of its text.
-fn tasks(case: &Case) -> usize {
+/// The tasks that a case's order or first column has room for, the lines of its text, or the items of its list.
+fn parts(case: &Case) -> usize {
     match case {
         Case::Write { columns: [widths, ..], .. } => widths.len(),
         Case::ReadText { text, .. } => text.iter().filter(|&&byte| byte == b'\n').count(),
+        Case::WriteList { set, .. } => set::runs(*set).count(),
+        Case::ReadList { text } => text.split(|&byte| byte == b',').count(),
         Case::Read { order }
         | Case::Plan { order, .. }
         | Case::Check { order, .. }
         | Case::Run { order, .. }
-        | Case::WriteText { order, .. } => order.len() / Order::TASK.bytes(),
+        | Case::WriteText { order, .. }
+        | Case::PartitionSets { order, .. } => order.len() / Order::TASK.bytes(),
     }
 }
 
@@ -174,6 +180,15 @@ fn record(case: &Case) -> Vec<u8> {
             put_bytes(&mut bytes, text);
             put_length(&mut bytes, *room);
         }
+        Case::WriteList { set, room } => {
+            bytes.extend(set.to_be_bytes());
+            put_length(&mut bytes, *room);
+        }
+        Case::ReadList { text } => put_bytes(&mut bytes, text),
+        Case::PartitionSets { order, build, room } => {
+            [order, build].iter().for_each(|part| put_bytes(&mut bytes, part));
+            put_length(&mut bytes, *room);
+        }
     }
     bytes
 }
@@ -203,6 +218,7 @@ fn answer(case: &Case) -> String {
     let mut line = format!("{name} {} {} {}", answer.number, answer.place, answer.count);
     let bytes = outcome.output_bytes().iter().map(|byte| format!(" {byte:02x}"));
     let words = outcome.output_words().iter().map(|word| format!(" {word:08x}"));
-    line.extend(bytes.chain(words));
+    let sets = outcome.output_sets().iter().map(|set| format!(" {set:016x}"));
+    line.extend(bytes.chain(words).chain(sets));
     line + "\n"
 }

@@ -55,6 +55,21 @@ fn write_text() {
 }
 
 #[test]
+fn write_list() {
+    agree(Operation::WriteList, 10_000, Scale::FULL);
+}
+
+#[test]
+fn read_list() {
+    agree(Operation::ReadList, 6_000, Scale::FULL);
+}
+
+#[test]
+fn partition_sets() {
+    agree(Operation::PartitionSets, 4_000, Scale::SMALL);
+}
+
+#[test]
 fn long_periods() {
     agree(Operation::Plan, 150, LONG);
     agree(Operation::Check, 150, LONG);

@@ -79,7 +79,7 @@ fn partitions_are_apart() {
 fn every_number_is_drawn() {
     let operations = Operation::all();
     let mut tally = Tally::new(&operations);
-    for case in cases::drawn(1, 28_000, &operations) {
+    for case in cases::drawn(1, 40_000, &operations) {
         tally.add(case.outcome(&Second).answer.number, case.operation());
     }
     assert!(tally.rarest().1 >= 10, "{tally}");

@@ -59,8 +59,8 @@ fn what_was_typed() {
 fn all_that_was_typed_is_compared() {
     let read = cases::typed().filter(|case| matches!(case, Case::ReadText { .. })).count();
     let accepted = texts::typed().iter().filter(|typed| typed.number == 0).count();
-    assert_eq!(read, texts::typed().len());
-    assert_eq!(cases::typed().count() - read, accepted);
+    let write = cases::typed().filter(|case| matches!(case, Case::WriteText { .. })).count();
+    assert_eq!((read, write), (texts::typed().len(), accepted));
 }
 
 /// 7,5 is 750 ticks and 0.01 is 1.

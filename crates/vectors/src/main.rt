@@ -9,7 +9,9 @@ const BYTE: u8 = 0xA5;
 
 const WORD: u32 = 0xA5A5_A5A5;
 
-// Room for orders, builds, texts and scripts that are too long by some, and for outputs that are longer than needed.
+const SET: u64 = 0xA5A5_A5A5_A5A5_A5A5;
+
+// Room for orders, builds, texts, lists and scripts that are too long by some, and for outputs that are longer than needed.
 const MOST_BYTES: usize = 512;
 
 const MOST_TEXT: usize = 2_048;
@@ -19,6 +21,8 @@ const MOST_ROWS: usize = 64;
 const MOST_SCRIPT: usize = 6_400;
 
 const MOST_TICKS: usize = 1_280;
+
+const MOST_SETS: usize = 256;
 
 // The most cases in one input.
 const MOST_CASES: u32 = 65_536;
@@ -31,6 +35,11 @@ fn put_byte(byte: u8) {
 fn put_word(word: u32) {
     io::write_all(1, b" ");
     io::print_hex(1, word as u64, 8);
+}
+
+fn put_set(set: u64) {
+    io::write_all(1, b" ");
+    io::print_hex(1, set, 16);
 }
 
 // Number, place and count out of the one word.
@@ -59,6 +68,15 @@ fn show_words(words: &[u32]) {
     end_line();
 }
 
+fn show_sets(sets: &[u64]) {
+    let mut i: usize = 0;
+    while i < sets.len() {
+        put_set(sets[i]);
+        i += 1;
+    }
+    end_line();
+}
+
 // 0 past the end of the input.
 fn next_byte() -> u8 {
     let mut byte = [0u8; 1];
@@ -78,6 +96,12 @@ fn next_word() -> u32 {
     high as u32 * 65_536 + low as u32
 }
 
+fn next_set() -> u64 {
+    let high = next_word();
+    let low = next_word();
+    high as u64 * 4_294_967_296 + low as u64
+}
+
 // A length, or 0 where there is less room.
 fn next_length(most: usize) -> usize
     ensures { λ r. ⌜ r ≤ most ⌝ }
@@ -93,6 +117,12 @@ fn next_room(out: &[u8]) -> usize
 }
 
 fn next_places(out: &[u32]) -> usize
+    ensures { λ r. ⌜ Counts r (now (out .entry)) ⌝ }
+{
+    next_length(out.len())
+}
+
+fn next_set_places(out: &[u64]) -> usize
     ensures { λ r. ⌜ Counts r (now (out .entry)) ⌝ }
 {
     next_length(out.len())
@@ -232,6 +262,45 @@ fn write_text_case() {
     write_text_into(&order[..size], &mut out[..room]);
 }
 
+fn write_list_into(set: u64, out: &mut [u8]) {
+    let word = jefkantu::jefkantu_write_list(set, out);
+    show_answer(b"write_list", word);
+    show_bytes(out);
+}
+
+fn write_list_case() {
+    let set = next_set();
+    let mut out = [BYTE; MOST_BYTES];
+    let room = next_room(&out);
+    write_list_into(set, &mut out[..room]);
+}
+
+fn read_list_case() {
+    let mut text = [0u8; MOST_TEXT];
+    let size = next_bytes(&mut text);
+    let mut set = SET;
+    let word = jefkantu::jefkantu_read_list(&text[..size], &mut set);
+    show_answer(b"read_list", word);
+    put_set(set);
+    end_line();
+}
+
+fn partition_sets_into(order: &[u8], build: &[u8], out: &mut [u64]) {
+    let word = jefkantu::jefkantu_partition_sets(order, build, out);
+    show_answer(b"partition_sets", word);
+    show_sets(out);
+}
+
+fn partition_sets_case() {
+    let mut order = [0u8; MOST_BYTES];
+    let size = next_bytes(&mut order);
+    let mut build = [0u8; MOST_BYTES];
+    let bytes = next_bytes(&mut build);
+    let mut out = [SET; MOST_SETS];
+    let places = next_set_places(&out);
+    partition_sets_into(&order[..size], &build[..bytes], &mut out[..places]);
+}
+
 // Whether there was a case; its first byte names the operation.
 fn next_case() -> bool {
     let operation = next_byte();
@@ -243,6 +312,9 @@ fn next_case() -> bool {
         5 => run_case(),
         6 => read_text_case(),
         7 => write_text_case(),
+        8 => write_list_case(),
+        9 => read_list_case(),
+        10 => partition_sets_case(),
         _ => return false,
     }
     true

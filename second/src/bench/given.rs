@@ -2,13 +2,13 @@
 
 use super::Operation;
 use crate::generate::random::Random;
-use crate::generate::{builds, papers, scripts, slow, Scale};
+use crate::generate::{builds, lists, papers, scripts, slow, Scale};
 use crate::order::{Order, Task};
 use crate::script::{self, Record};
-use crate::{check, counted, speed, text};
+use crate::{check, counted, list, speed, text};
 
 /// An order with its build, none if it is refused; the build with all tasks in one partition; a legal script; M and a
-/// text.
+/// text; a set and a list.
 pub struct Given {
     pub order: Vec<u8>,
     pub build: Vec<u8>,
@@ -16,6 +16,8 @@ pub struct Given {
     pub script: Vec<u8>,
     pub processors: u32,
     pub text: Vec<u8>,
+    pub set: u64,
+    pub list: Vec<u8>,
 }
 
 impl Given {
@@ -31,6 +33,8 @@ impl Given {
             script: script::bytes(script),
             processors: order.processors,
             text: text::write(order),
+            set: 0,
+            list: Vec::new(),
         }
     }
 
@@ -42,7 +46,7 @@ impl Given {
         self.script.len() / 6
     }
 
-    /// The library's terms in an operation, as its copy counts them; a text has none.
+    /// The library's terms in an operation, as its copy counts them; a text and a list have none.
     pub fn terms(&self, operation: Operation) -> u64 {
         let checked = |order: &Order, build: &[u8]| {
             let build = check::read(build, order).expect("a build");
@@ -52,8 +56,10 @@ impl Given {
         match operation {
             Operation::Plan => counted::plan(&order).1,
             Operation::CheckInOne => checked(&order, &self.in_one),
-            Operation::Check | Operation::Run => checked(&order, &self.build),
-            Operation::ReadText | Operation::WriteText => 0,
+            Operation::Check | Operation::Run | Operation::PartitionSets => {
+                checked(&order, &self.build)
+            }
+            _ => 0,
         }
     }
 
@@ -115,8 +121,29 @@ pub fn line_feeds(count: usize) -> Given {
 }
 
 fn of_text(text: String) -> Given {
+    Given { text: text.into_bytes(), ..plain() }
+}
+
+/// So many random sets, each with its list.
+pub fn sets(count: u32) -> Vec<Given> {
+    let mut random = Random::new(5);
+    (0..count).map(|_| of_set(lists::set(&mut random))).collect()
+}
+
+/// A set with its list.
+pub fn of_set(set: u64) -> Given {
+    Given { set, list: list::write(set), ..plain() }
+}
+
+/// A list that is read.
+pub fn of_list(list: String) -> Given {
+    Given { list: list.into_bytes(), ..plain() }
+}
+
+/// The order of one plain task.
+fn plain() -> Given {
     let order = Order { processors: 1, tasks: vec![Task { m: 1, t: 750, d: 750, c: 750 }] };
-    Given { text: text.into_bytes(), ..Given::new(&order, &[]) }
+    Given::new(&order, &[])
 }
 
 /// The orders of slow.txt, each with a legal script.

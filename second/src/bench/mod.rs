@@ -8,7 +8,7 @@ use crate::answer::Answer;
 use crate::library::Library;
 use crate::program::{Program, Second};
 use crate::speed::Speed;
-use crate::{order::Order, text};
+use crate::{list, order::Order, text};
 use given::Given;
 
 /// A program that is timed.
@@ -34,6 +34,9 @@ pub enum Operation {
     Run,
     ReadText,
     WriteText,
+    WriteList,
+    ReadList,
+    PartitionSets,
 }
 
 impl Operation {
@@ -45,6 +48,9 @@ impl Operation {
             Operation::Run => "run",
             Operation::ReadText => "read_text",
             Operation::WriteText => "write_text",
+            Operation::WriteList => "write_list",
+            Operation::ReadList => "read_list",
+            Operation::PartitionSets => "partition_sets",
         }
     }
 
@@ -55,9 +61,15 @@ impl Operation {
         }
     }
 
+    /// Whether it asks what is asked by some t, so that terms are counted.
+    pub fn has_terms(self) -> bool {
+        use Operation::{Check, CheckInOne, PartitionSets, Plan, Run};
+        matches!(self, Plan | Check | CheckInOne | Run | PartitionSets)
+    }
+
     /// The answer of a program, over cleared outputs.
     pub fn answer(self, program: &dyn Program, given: &Given) -> Answer {
-        let Given { order, build, in_one, script, processors, text } = given;
+        let Given { order, build, in_one, script, processors, text, set, list } = given;
         match self {
             Operation::Plan => program.plan(order, &mut [0; 195]),
             Operation::Check => program.check(order, build),
@@ -65,6 +77,9 @@ impl Operation {
             Operation::Run => program.run(order, build, script, &mut [0; 1_024]),
             Operation::ReadText => program.read_text(*processors, text, &mut [0; Order::MOST]),
             Operation::WriteText => program.write_text(order, &mut [0; text::MOST]),
+            Operation::WriteList => program.write_list(*set, &mut [0; list::MOST]),
+            Operation::ReadList => program.read_list(list, &mut 0),
+            Operation::PartitionSets => program.partition_sets(order, build, &mut [0; 32]),
         }
     }
 }

@@ -39,9 +39,9 @@ impl Tables {
             Operation::Run => mean(given, |given| given.records() as u64).to_string(),
             _ => String::new(),
         };
-        let terms = match operation {
-            Operation::ReadText | Operation::WriteText => String::new(),
-            _ => mean(given, |given| given.terms(operation)).to_string(),
+        let terms = match operation.has_terms() {
+            true => mean(given, |given| given.terms(operation)).to_string(),
+            false => String::new(),
         };
         let (what, cases) = (operation.name(), given.len());
         println!("| {name} | {what} | {cases} | {records} | {terms} |{cells} {ratio:.2} |");

@@ -5,12 +5,14 @@
 
 use second::bench::given::{self, Given};
 use second::bench::table::Tables;
-use second::bench::Operation::{Check, CheckInOne, Plan, ReadText, Run, WriteText};
-use second::generate::papers;
+use second::bench::Operation::{
+    Check, CheckInOne, PartitionSets, Plan, ReadList, ReadText, Run, WriteList, WriteText,
+};
+use second::generate::{lists, papers};
 use std::process::exit;
 
 /// All sides; without the second program, whose plain search takes minutes for the slow orders; and without the program
-/// for speed, which has the second program's text.
+/// for speed, which has the second program's text and lists.
 const ALL: [usize; 3] = [0, 1, 2];
 const FAST: [usize; 2] = [0, 2];
 const PLAIN: [usize; 2] = [0, 1];
@@ -93,6 +95,25 @@ fn texts(tables: &mut Tables) {
     tables.row(&format!("{count} line feeds"), ReadText, &PLAIN, &[&given::line_feeds(count)]);
 }
 
+fn lists(tables: &mut Tables) {
+    tables.head("Lists of processors", "List");
+    let given = given::sets(ORDERS);
+    let given: Vec<&Given> = given.iter().collect();
+    let (longest, full) = (given::of_set(lists::LONGEST), given::of_set(u64::MAX));
+    let rows = [("random sets", given), ("the longest", vec![&longest]), ("0-63", vec![&full])];
+    for operation in [WriteList, ReadList] {
+        rows.iter().for_each(|(name, given)| tables.row(name, operation, &PLAIN, given));
+    }
+    let (items, zeros) = ("7,".repeat(511) + "07", "0".repeat(1_022) + "63");
+    tables.row("512 items, 1,024 bytes", ReadList, &PLAIN, &[&given::of_list(items)]);
+    tables.row("a number of 1,024 digits", ReadList, &PLAIN, &[&given::of_list(zeros)]);
+    tables.head("Partitions' sets, of 32 tasks", "Partitions");
+    for partitions in [1, 8, 32] {
+        let given = given::filling(partitions, 0, 20);
+        tables.row(&partitions.to_string(), PartitionSets, &ALL, &apart(&given).0);
+    }
+}
+
 fn main() {
     let mut tables = Tables { runs: 25, largest: Vec::new() };
     let mut limits = false;
@@ -115,6 +136,7 @@ fn main() {
     growth(&mut tables);
     slow(&mut tables);
     texts(&mut tables);
+    lists(&mut tables);
     if !tables.close() && limits {
         println!("\nsome ratio is over its limit");
         exit(1);

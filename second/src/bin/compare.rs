@@ -4,7 +4,8 @@ use second::answer::Answer;
 use second::case::{Case, Operation, Outcome};
 use second::generate::cases;
 use second::library::{
-    jefkantu_check, jefkantu_plan, jefkantu_read_order, jefkantu_read_text, jefkantu_run,
+    jefkantu_check, jefkantu_partition_sets, jefkantu_plan, jefkantu_read_list,
+    jefkantu_read_order, jefkantu_read_text, jefkantu_run, jefkantu_write_list,
     jefkantu_write_order, jefkantu_write_text,
 };
 use second::options::Options;
@@ -73,6 +74,21 @@ impl Program for Watched {
         let (to, room) = (out.as_mut_ptr(), out.len());
         self.lend([order], |[o]| unsafe { jefkantu_write_text(o.0, o.1, to, room) })
     }
+
+    fn write_list(&self, set: u64, out: &mut [u8]) -> Answer {
+        Answer::unpack(unsafe { jefkantu_write_list(set, out.as_mut_ptr(), out.len()) })
+    }
+
+    fn read_list(&self, text: &[u8], set: &mut u64) -> Answer {
+        self.lend([text], |[t]| unsafe { jefkantu_read_list(t.0, t.1, set) })
+    }
+
+    fn partition_sets(&self, order: &[u8], build: &[u8], out: &mut [u64]) -> Answer {
+        let (to, room) = (out.as_mut_ptr(), out.len());
+        self.lend([order, build], |[o, b]| unsafe {
+            jefkantu_partition_sets(o.0, o.1, b.0, b.1, to, room)
+        })
+    }
 }
 
 /// Whether the library's operation is linked.
@@ -83,6 +99,9 @@ fn linked(operation: &Operation) -> bool {
         Operation::Check => cfg!(feature = "check"),
         Operation::Run => cfg!(feature = "run"),
         Operation::ReadText | Operation::WriteText => cfg!(feature = "text"),
+        Operation::WriteList | Operation::ReadList | Operation::PartitionSets => {
+            cfg!(feature = "lists")
+        }
     }
 }
 
@@ -93,7 +112,9 @@ fn operations(options: &Options) -> Vec<Operation> {
         operations.retain(linked);
     }
     if operations.is_empty() || !operations.iter().all(linked) {
-        eprintln!("not linked; build with --features read_write,plan,check,run,text as needed");
+        eprintln!(
+            "not linked; build with --features read_write,plan,check,run,text,lists as needed"
+        );
         exit(2)
     }
     operations
@@ -117,12 +138,12 @@ fn alike(library: &Watched, case: &Case) -> Option<Outcome> {
     None
 }
 
-/// That, and a text that was written is read back as its order.
+/// That, and a text or list that was written is read back as what it was written from.
 fn holds(library: &Watched, case: &Case) -> Option<Outcome> {
     let outcome = alike(library, case)?;
-    if let Some((read, order)) = case.read_back(&outcome) {
-        if alike(library, &read)?.output_bytes() != order {
-            println!("read back as another order: {}", case.line(&outcome));
+    if let Some(read) = case.read_back(&outcome) {
+        if !case.came_back(&alike(library, &read)?) {
+            println!("read back as another: {}", case.line(&outcome));
             return None;
         }
     }

@@ -41,6 +41,27 @@ pub fn ranked_in_one(order: &Order) -> Build {
     build
 }
 
+/// Gives one member another partition, rank or response, or one partition other processors.
+pub fn misdraw(random: &mut Random, build: &mut Build) {
+    let chosen = random.below(build.members.len() as u32) as usize;
+    let member = &mut build.members[chosen];
+    let beside = |number: u32, more: bool| if more { number + 1 } else { number.saturating_sub(1) };
+    match random.below(4) {
+        0 => member.partition = random.below(build.partitions.len() as u32 + 1),
+        1 => member.rank = beside(member.rank, random.one_in(2)),
+        2 => member.response = beside(member.response, random.one_in(2)),
+        _ => {
+            let chosen = random.below(build.partitions.len() as u32) as usize;
+            let part = &mut build.partitions[chosen];
+            if random.one_in(2) {
+                part.volume = beside(part.volume, random.one_in(2));
+            } else {
+                part.first = beside(part.first, random.one_in(2));
+            }
+        }
+    }
+}
+
 /// The fields of a build on the wire.
 pub fn sections(build: &Build) -> Vec<Section> {
     vec![

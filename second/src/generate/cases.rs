@@ -1,11 +1,12 @@
 //! Random cases.
 
 use super::random::Random;
-use super::{builds, damage, orders, scripts, texts, Scale};
+use super::{builds, damage, lists, orders, scripts, texts, Scale};
+use crate::build::Build;
 use crate::case::{Case, Operation};
 use crate::fit::first_fit;
 use crate::order::{Order, Task};
-use crate::{script, text};
+use crate::{list, script, text};
 
 /// The groups of some operations, and how many of so many cases each of them gets.
 pub fn shares(operations: &[Operation], cases: u64) -> Vec<(Vec<Operation>, u64)> {
@@ -16,7 +17,7 @@ pub fn shares(operations: &[Operation], cases: u64) -> Vec<(Vec<Operation>, u64)
     Operation::groups(operations).into_iter().map(share).collect()
 }
 
-/// So many cases of some operations: the texts that were typed, then group by group those of a seed.
+/// So many cases of some operations: the texts and lists that were typed, then group by group those of a seed.
 pub fn drawn(seed: u64, cases: u64, operations: &[Operation]) -> impl Iterator<Item = Case> + '_ {
     let typed = typed().filter(|case| operations.contains(&case.operation()));
     let random = shares(operations, cases).into_iter().flat_map(move |(group, cases)| {
@@ -25,8 +26,21 @@ pub fn drawn(seed: u64, cases: u64, operations: &[Operation]) -> impl Iterator<I
     typed.chain(random)
 }
 
-/// The texts that were typed, and the orders of those that are accepted; there is some more room than needed.
+/// The texts and lists that were typed, and the orders and sets of those that are accepted; there is some more room than
+/// needed.
 pub fn typed() -> impl Iterator<Item = Case> {
+    typed_texts().chain(typed_lists())
+}
+
+fn typed_lists() -> impl Iterator<Item = Case> {
+    lists::typed().into_iter().flat_map(|lists::Typed { text, .. }| {
+        let set = list::read(&text).ok();
+        let write = set.map(|set| Case::WriteList { set, room: list::write(set).len() + 8 });
+        [Some(Case::ReadList { text }), write].into_iter().flatten()
+    })
+}
+
+fn typed_texts() -> impl Iterator<Item = Case> {
     texts::typed().into_iter().flat_map(|texts::Typed { processors, text, .. }| {
         let order = text::read(processors, &text).ok();
         let needed = order.as_ref().map_or(0, |order| order.bytes().len());
@@ -55,6 +69,9 @@ fn draw(random: &mut Random, operation: Operation, scale: &Scale) -> Case {
         Operation::Run => run(random, scale),
         Operation::ReadText => read_text(random, scale),
         Operation::WriteText => write_text(random, scale),
+        Operation::WriteList => write_list(random),
+        Operation::ReadList => Case::ReadList { text: lists::text(random) },
+        Operation::PartitionSets => partition_sets(random, scale),
     }
 }
 
@@ -74,16 +91,20 @@ fn order_bytes(random: &mut Random, order: &Order, damaged: u32) -> Vec<u8> {
     bytes
 }
 
-/// A build's bytes, by first fit or by hand, damaged once in so many times.
-fn build_bytes(random: &mut Random, order: &Order, damaged: u32) -> Vec<u8> {
+/// A build by first fit or by hand.
+fn build(random: &mut Random, order: &Order) -> Build {
     let planned = random.one_in(2).then(|| first_fit(order));
-    let build = match planned {
+    match planned {
         Some(Ok(build)) => build,
         _ => builds::by_hand(random, order),
-    };
+    }
+}
+
+/// A build's bytes, damaged once in so many times.
+fn build_bytes(random: &mut Random, build: &Build, damaged: u32) -> Vec<u8> {
     let mut bytes = build.bytes();
     if random.one_in(damaged) {
-        damage::damage(random, &mut bytes, &builds::sections(&build));
+        damage::damage(random, &mut bytes, &builds::sections(build));
     }
     bytes
 }
@@ -153,14 +174,16 @@ fn plan(random: &mut Random, scale: &Scale) -> Case {
 /// An order and a build, damaged or not.
 fn check(random: &mut Random, scale: &Scale) -> Case {
     let order = orders::order(random, scale);
-    let build = build_bytes(random, &order, 2);
+    let build = build(random, &order);
+    let build = build_bytes(random, &build, 2);
     Case::Check { order: order_bytes(random, &order, 16), build }
 }
 
 /// An order, a build that is mostly sound, and a script, legal or not.
 fn run(random: &mut Random, scale: &Scale) -> Case {
     let order = acceptable(random, scale);
-    let build = build_bytes(random, &order, 32);
+    let build = build(random, &order);
+    let build = build_bytes(random, &build, 32);
     let mut records = scripts::legal(random, &order, scale);
     if random.one_in(4) {
         scripts::misdraw(random, &mut records);
@@ -192,4 +215,29 @@ fn write_text(random: &mut Random, scale: &Scale) -> Case {
         orders::misdraw(random, &mut order);
     }
     Case::WriteText { order: order_bytes(random, &order, 2), room: room(random, needed) }
+}
+
+/// A set to write, and room around what its list takes.
+fn write_list(random: &mut Random) -> Case {
+    let set = lists::set(random);
+    Case::WriteList { set, room: room(random, list::write(set).len()) }
+}
+
+/// An order and a build, each misdrawn or damaged or not, and places around what its partitions take.
+fn partition_sets(random: &mut Random, scale: &Scale) -> Case {
+    let mut order =
+        if random.one_in(2) { orders::order(random, scale) } else { acceptable(random, scale) };
+    let mut build = build(random, &order);
+    let needed = build.partitions.len();
+    match random.below(24) {
+        0 | 1 => orders::miscount(random, &mut order),
+        2..=5 => orders::misdraw(random, &mut order),
+        6..=10 => builds::misdraw(random, &mut build),
+        _ => {}
+    }
+    Case::PartitionSets {
+        order: order_bytes(random, &order, 5),
+        build: build_bytes(random, &build, 2),
+        room: room(random, needed),
+    }
 }

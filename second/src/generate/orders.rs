@@ -42,6 +42,15 @@ pub fn misdraw(random: &mut Random, order: &mut Order) {
     }
 }
 
+/// Puts M or n out of range.
+pub fn miscount(random: &mut Random, order: &mut Order) {
+    if random.one_in(2) {
+        order.processors = random.pick(&[0, 65, 127]);
+    } else {
+        order.tasks.resize(random.pick(&[0, 33, 48]), Task { m: 1, t: 1, d: 1, c: 1 });
+    }
+}
+
 /// The fields of an order on the wire.
 pub fn sections(order: &Order) -> Vec<Section> {
     vec![Section::new(&Order::HEADER.0, 1), Section::new(&Order::TASK.0, order.tasks.len())]

@@ -1,4 +1,4 @@
-//! A planner written for speed, from the definition: plan, check and run with all refusals.
+//! A planner written for speed, from the definition: plan, check, run and partitions' sets with all refusals.
 //!
 //! It is the third side of the benchmarks: flat arrays, one pass over the bytes, nothing read or sorted twice, the
 //! waiting members of a partition as one word. What it leaves out is said in docs/BENCHMARKS.md: it keeps no start of a
@@ -9,10 +9,12 @@ mod members;
 mod order;
 mod plan;
 mod run;
+mod sets;
 
 pub use check::check;
 pub use plan::plan;
 pub use run::run;
+pub use sets::partition_sets;
 
 use crate::answer::Answer;
 use crate::order::Order;
@@ -21,7 +23,7 @@ use crate::program::Program;
 /// The most tasks, and the most partitions that can have one.
 const MOST: usize = 32;
 
-/// The program written for speed; orders are read and written by the second program.
+/// The program written for speed; orders, texts and lists are read and written by the second program.
 pub struct Speed;
 
 impl Program for Speed {
@@ -51,5 +53,17 @@ impl Program for Speed {
 
     fn write_text(&self, order: &[u8], out: &mut [u8]) -> Answer {
         crate::write_text(order, out)
+    }
+
+    fn write_list(&self, set: u64, out: &mut [u8]) -> Answer {
+        crate::write_list(set, out)
+    }
+
+    fn read_list(&self, text: &[u8], set: &mut u64) -> Answer {
+        crate::read_list(text, set)
+    }
+
+    fn partition_sets(&self, order: &[u8], build: &[u8], out: &mut [u64]) -> Answer {
+        partition_sets(order, build, out)
     }
 }

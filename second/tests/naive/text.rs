@@ -52,12 +52,12 @@ fn line(bytes: &[u8]) -> Option<Line> {
 }
 
 /// The digits without the zeros in front.
-fn bare(digits: &[u8]) -> &[u8] {
+pub fn bare(digits: &[u8]) -> &[u8] {
     let zeros = digits.iter().take_while(|&&digit| digit == b'0').count();
     &digits[zeros..]
 }
 
-fn is_over(digits: &[u8], most: &[u8]) -> bool {
+pub fn is_over(digits: &[u8], most: &[u8]) -> bool {
     let digits = bare(digits);
     digits.len() > most.len() || digits.len() == most.len() && digits > most
 }
