@@ -12,7 +12,7 @@ use Rattle.laws.proofs.Choice.{within-true}
 use Rattle.form.specs.Bytes.{isDigit}
 use Rattle.form.specs.Parts.{upTo}
 use Rattle.form.specs.Numbers.{Digits, digitsOf}
-use Rattle.form.proofs.Parts.{up-to-take}
+use Rattle.form.proofs.Parts.{length-up-to, up-to-take}
 
 pub digits-more : (b : ℕ) (s : List ℕ) → isDigit b ≡ true → digitsOf (b ∷ s) ≡ b ∷ digitsOf s
 unfolding digitsOf upTo
@@ -50,6 +50,10 @@ digits-are (b ∷ s) = go (isDigit b) refl (digits-are s)
 pub digits-cut : (s : List ℕ) → s ≡ digitsOf s ++ drop (length (digitsOf s)) s
 unfolding digitsOf
 digits-cut s = sym (ap (λ (front : List ℕ). front ++ drop (length (upTo (λ b. pick (isDigit b) false true) s)) s) (up-to-take (λ b. pick (isDigit b) false true) s) ∙ take-append-drop (length (upTo (λ b. pick (isDigit b) false true) s)) s)
+
+pub length-digits : (s : List ℕ) → length (digitsOf s) ≤ length s
+unfolding digitsOf
+length-digits s = length-up-to _ s
 
 pub digits-over : (s : List ℕ) → isDigit (getD (drop (length (digitsOf s)) s) 0 0) ≡ false
 unfolding digitsOf upTo

@@ -107,6 +107,14 @@ module _ (passes : ℕ → Bool) where
   unfolding upTo
   up-to-nil = refl
 
+  pub up-to-more : (b : ℕ) (s : List ℕ) → passes b ≡ false → upTo passes (b ∷ s) ≡ b ∷ upTo passes s
+  unfolding upTo
+  up-to-more b s e = rw e
+
+  pub up-to-stop : (b : ℕ) (s : List ℕ) → passes b ≡ true → upTo passes (b ∷ s) ≡ []
+  unfolding upTo
+  up-to-stop b s e = rw e
+
   pub length-up-to : (s : List ℕ) → length (upTo passes s) ≤ length s
   unfolding upTo
   length-up-to [] = omega arith

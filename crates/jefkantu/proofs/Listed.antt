@@ -6,8 +6,6 @@ use Prim.Native.Nat.{ℕ, zero, suc, _+_, _≤_, _<_}
 use native.Mathlib.Omega.{arith}
 use lib.ListN.{length, drop, length-drop}
 use borrow.Author.Tests.{leb-true}
-use Rattle.model.specs.declared.answer.Answer.{Answer}
-use Rattle.model.specs.declared.answer.Answer.the-variants.{Done, Refused}
 use Rattle.model.specs.Rules.{roomRules}
 use Rattle.model.proofs.Rules.{AllPass}
 use Rattle.build.specs.Build.{buildAt}
@@ -15,20 +13,18 @@ use Rattle.build.proofs.Fits.{header-fits}
 use Rattle.inspect.specs.Rules.{checkRules}
 use Rattle.form.specs.Parts.{count, upTo, behind}
 use Rattle.form.specs.Numbers.{digitsOf, behindDigits, valueOf}
-use Rattle.form.proofs.Parts.{length-up-to, up-to-ends, count-behind-less}
+use Rattle.form.proofs.Parts.{up-to-ends, count-behind-less}
+use Rattle.form.proofs.Digits.{length-digits}
 use Rattle.sets.specs.Sets.{IsSet}
 use Rattle.list_form.specs.ListText.{listText}
 use Rattle.list_form.proofs.Short.{list-short}
-use Rattle.list.specs.Read.{mostListText, isComma, isDashed, numberRules, endRules, lastRules, moreRules, itemRules, itemsRules, contentRules, listRules, listAnswer, readingBy, readList}
+use Rattle.list.specs.Read.{mostListText, isComma, isDashed, numberRules, endRules, lastRules, moreRules, itemRules, itemsRules, contentRules, listRules, listAnswer, readList}
+use Rattle.list.proofs.Items.{reading-answer}
 use Rattle.list_out.specs.Write.{writeListRules, writeListAnswer}
 use Rattle.partition_sets.specs.Given.{setsRules, setsAnswer}
 use Rattle.jefkantu.specs.Word.{FitsWord}
 use Rattle.jefkantu.proofs.Fits.{PlacesFit, places-append, answer-fits, alone-fits}
 use Rattle.jefkantu.proofs.Places.{room-places, check-places}
-
-length-digits : (s : List ℕ) → length (digitsOf s) ≤ length s
-unfolding digitsOf
-length-digits s = length-up-to _ s
 
 number-places : (at digits value : ℕ) → at < 65_536 → PlacesFit (numberRules at digits value)
 unfolding PlacesFit numberRules
@@ -71,10 +67,6 @@ content-places : (text : List ℕ) → length text ≤ mostListText → PlacesFi
 unfolding contentRules PlacesFit
 content-places [] short = tt
 content-places (b ∷ s) short = items-places 0 (count isComma (b ∷ s)) (b ∷ s) refl (omega (arith, short))
-
-reading-answer : (answer : Answer) (set : ℕ) → readingBy answer set .answer ≡ answer
-reading-answer (Done count) set = refl
-reading-answer (Refused cause) set = refl
 
 -- whatever text is read: past 1,024 bytes it is refused
 pub list-fits : (text : List ℕ) → FitsWord (readList text .answer)

@@ -12,21 +12,10 @@ use Rattle.laws.proofs.Every.{clash}
 use Rattle.form.specs.Bytes.{isDigit, comma}
 use Rattle.form.specs.Parts.{upTo}
 use Rattle.form.specs.Numbers.{digitsOf, behindDigits}
+use Rattle.form.proofs.Parts.{up-to-nil, up-to-more, up-to-stop}
 use Rattle.form.proofs.Digits.{digits-more, digits-stop, digits-none, digits-cut}
 use Rattle.list_form.specs.Items.{dash}
 use Rattle.list.specs.Read.{isComma}
-
-pub up-to-more : (b : ℕ) (s : List ℕ) → isComma b ≡ false → upTo isComma (b ∷ s) ≡ b ∷ upTo isComma s
-unfolding upTo
-up-to-more b s e = rw e
-
-pub up-to-stop : (b : ℕ) (s : List ℕ) → isComma b ≡ true → upTo isComma (b ∷ s) ≡ []
-unfolding upTo
-up-to-stop b s e = rw e
-
-pub up-to-none : upTo isComma [] ≡ []
-unfolding upTo
-up-to-none = refl
 
 -- a digit is no comma
 digit-no-comma : (b : ℕ) → isDigit b ≡ true → isComma b ≡ false
@@ -41,18 +30,18 @@ whole : (t : List ℕ) → digitsOf t ≡ [] → behindDigits t ≡ t
 whole t none = ap (λ (digits : List ℕ). drop (length digits) t) none
 
 cut-item : (s : List ℕ) → CutItem s
-cut-item [] = record { digits = ap digitsOf up-to-none; left = ap behindDigits up-to-none ∙ whole [] digits-none ∙ sym up-to-none ∙ ap (upTo isComma) (sym (whole [] digits-none)) }
+cut-item [] = record { digits = ap digitsOf (up-to-nil isComma); left = ap behindDigits (up-to-nil isComma) ∙ whole [] digits-none ∙ sym (up-to-nil isComma) ∙ ap (upTo isComma) (sym (whole [] digits-none)) }
 cut-item (b ∷ s) = go (isDigit b) refl (cut-item s)
   where
     stops : (x : Bool) → isComma b ≡ x → isDigit b ≡ false → CutItem (b ∷ s)
     stops true c e =
-        let cut = up-to-stop b s c in
+        let cut = up-to-stop isComma b s c in
         record {
           digits = ap digitsOf cut ∙ digits-none ∙ sym (digits-stop b s e);
           left = ap behindDigits cut ∙ whole [] digits-none ∙ sym cut ∙ ap (upTo isComma) (sym (whole (b ∷ s) (digits-stop b s e)));
         }
     stops false c e =
-        let cut = up-to-more b s c in
+        let cut = up-to-more isComma b s c in
         record {
           digits = ap digitsOf cut ∙ digits-stop b (upTo isComma s) e ∙ sym (digits-stop b s e);
           left = ap behindDigits cut ∙ whole (b ∷ upTo isComma s) (digits-stop b (upTo isComma s) e) ∙ sym cut ∙ ap (upTo isComma) (sym (whole (b ∷ s) (digits-stop b s e)));
@@ -63,7 +52,7 @@ cut-item (b ∷ s) = go (isDigit b) refl (cut-item s)
 
     go : (x : Bool) → isDigit b ≡ x → CutItem s → CutItem (b ∷ s)
     go true e earlier =
-        let cut = up-to-more b s (digit-no-comma b e) in
+        let cut = up-to-more isComma b s (digit-no-comma b e) in
         record {
           digits = ap digitsOf cut ∙ digits-more b (upTo isComma s) e ∙ ap (λ (digits : List ℕ). b ∷ digits) (earlier .digits) ∙ sym (digits-more b s e);
           left = ap behindDigits cut ∙ behind-more (upTo isComma s) e ∙ earlier .left ∙ ap (upTo isComma) (sym (behind-more s e));
@@ -84,15 +73,15 @@ item-length s =
 
 -- a dash that some bytes begin with is in their item
 pub dash-in-item : (s : List ℕ) → eqb (getD (upTo isComma s) 0 0) dash ≡ eqb (getD s 0 0) dash
-dash-in-item [] = ap (λ (t : List ℕ). eqb (getD t 0 0) dash) up-to-none
+dash-in-item [] = ap (λ (t : List ℕ). eqb (getD t 0 0) dash) (up-to-nil isComma)
 dash-in-item (b ∷ s) = go (isComma b) refl
   where
     go : (x : Bool) → isComma b ≡ x → eqb (getD (upTo isComma (b ∷ s)) 0 0) dash ≡ eqb b dash
-    go true c = ap (λ (t : List ℕ). eqb (getD t 0 0) dash) (up-to-stop b s c) ∙ sym (ap (λ (x : ℕ). eqb x dash) (eqb-true b comma c))
-    go false c = ap (λ (t : List ℕ). eqb (getD t 0 0) dash) (up-to-more b s c)
+    go true c = ap (λ (t : List ℕ). eqb (getD t 0 0) dash) (up-to-stop isComma b s c) ∙ sym (ap (λ (x : ℕ). eqb x dash) (eqb-true b comma c))
+    go false c = ap (λ (t : List ℕ). eqb (getD t 0 0) dash) (up-to-more isComma b s c)
 
 pub behind-dash : (s : List ℕ) → eqb (getD s 0 0) dash ≡ true → upTo isComma s ≡ dash ∷ upTo isComma (drop 1 s)
 behind-dash [] e = absurd (clash e)
 behind-dash (b ∷ s) e =
     let d = eqb-true b dash e in
-    up-to-more b s (ap isComma d) ∙ ap (λ (x : ℕ). x ∷ upTo isComma s) d
+    up-to-more isComma b s (ap isComma d) ∙ ap (λ (x : ℕ). x ∷ upTo isComma s) d

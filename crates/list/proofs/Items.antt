@@ -146,6 +146,11 @@ module _ (text : List ℕ) where
               set-over = λ past. absurd (omega (arith, past, next, some, size, inside));
             }
 
+-- a reading has the answer
+pub reading-answer : (answer : Answer) (set : ℕ) → readingBy answer set .answer ≡ answer
+reading-answer (Done count) set = refl
+reading-answer (Refused cause) set = refl
+
 -- 65, the empty text, and a text of items
 pub too-long : (text : List ℕ) → mostListText < length text → readList text ≡ record { answer = Refused (OfList ListLength); set = 0 }
 unfolding readList listAnswer listRules firstBroken

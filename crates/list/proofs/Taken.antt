@@ -20,23 +20,24 @@ use Rattle.model.proofs.Rules.{never}
 use Rattle.form.specs.Bytes.{comma}
 use Rattle.form.specs.Parts.{upTo}
 use Rattle.form.specs.Numbers.{digitsOf, behindDigits, valueOf, capped}
+use Rattle.form.proofs.Parts.{up-to-nil, up-to-more, up-to-stop}
 use Rattle.list_form.specs.Items.{dash, Item}
 use Rattle.list.specs.declared.ItemTaken.{ItemTaken}
 use Rattle.list.specs.Read.{isComma, isDashed, behindDash, numberRules, endRules, lastRules}
 use Rattle.list.specs.Taken.{refusedItem, HoldsItem, TakesLast, TakesItem}
-use Rattle.list.proofs.Cut.{item-length, behind-dash, up-to-stop, up-to-more, up-to-none}
+use Rattle.list.proofs.Cut.{item-length, behind-dash}
 use Rattle.list.proofs.Rules.{number-good, number-told, value-exact, ended, not-ended, end-reached, last-stops, last-falls, last-ends, item-stops, item-ranges, item-ends, item-alone, item-range}
 
 -- an item's end at a place of a text
 module _ (text : List ℕ) (at : ℕ) where
   pub end-past : length text ≤ at → firstBroken 0 (endRules at (upTo isComma (drop at text))) ≡ Done 0
-  end-past past = ended at _ (ap (upTo isComma) (drop-of-length-le text past) ∙ up-to-none)
+  end-past past = ended at _ (ap (upTo isComma) (drop-of-length-le text past) ∙ up-to-nil isComma)
 
   pub end-comma : at < length text → getD text at 0 ≡ comma → firstBroken 0 (endRules at (upTo isComma (drop at text))) ≡ Done 0
-  end-comma inside here = ended at _ (ap (upTo isComma) (drop-cons text at 0 inside) ∙ up-to-stop _ _ (eq-eqb _ comma here))
+  end-comma inside here = ended at _ (ap (upTo isComma) (drop-cons text at 0 inside) ∙ up-to-stop isComma _ _ (eq-eqb _ comma here))
 
   pub end-other : at < length text → (getD text at 0 ≡ comma → ⊥) → firstBroken 0 (endRules at (upTo isComma (drop at text))) ≡ Refused (OfList (ListShape at))
-  end-other inside other = not-ended at _ _ _ (ap (upTo isComma) (drop-cons text at 0 inside) ∙ up-to-more _ _ (ne-eqb _ comma other))
+  end-other inside other = not-ended at _ _ _ (ap (upTo isComma) (drop-cons text at 0 inside) ∙ up-to-more isComma _ _ (ne-eqb _ comma other))
 
 -- what stands behind the digits from a place on
 pub left-at : (text : List ℕ) (at next : ℕ) → next ≡ at + length (digitsOf (drop at text)) → behindDigits (drop at text) ≡ drop next text

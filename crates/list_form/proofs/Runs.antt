@@ -11,7 +11,7 @@ use Rattle.laws.specs.Choice.{pick}
 use Rattle.laws.proofs.Every.{clash}
 use Rattle.model.specs.Limits.{mostProcessors}
 use Rattle.sets.specs.Sets.{IsSet, has}
-use Rattle.sets.proofs.Processors.{set-past}
+use Rattle.sets.proofs.Processors.{set-past, has-below}
 use Rattle.list_form.specs.Items.{Item, mostListed, ItemsRight}
 use Rattle.list_form.specs.Runs.{beginsRun, runEnd, runsFrom, runsOf, IsRun, AllRuns, Rising, Listed}
 
@@ -22,11 +22,7 @@ begun false b e = clash e
 
 module _ (set : ℕ) (is-set : IsSet set) where
   pub has-within : (k : ℕ) → has set k ≡ true → k ≤ mostListed
-  has-within k there = go (decLe k mostListed)
-    where
-      go : Dec (k ≤ mostListed) → k ≤ mostListed
-      go (yes below) = below
-      go (no above) = clash (sym (set-past set k is-set (omega arith)) ∙ there)
+  has-within k there = omega (arith, has-below set k is-set there)
 
   -- where a run ends
   run-end-rises : (more k : ℕ) → k ≤ runEnd set k more

@@ -7,12 +7,10 @@ use native.Mathlib.Omega.{arith}
 use native.Mathlib.Decide.{decLt}
 use lib.ListN.{length, getD}
 use Rattle.laws.proofs.Joined.{getD-listed, length-listed}
-use Rattle.model.specs.declared.build.Partition.{Partition}
 use Rattle.model.specs.declared.build.Build.{Build}
 use Rattle.model.specs.declared.answer.Answer.{Answer}
 use Rattle.model.specs.declared.answer.Answer.the-variants.{Done}
 use Rattle.model.specs.Limits.{placeOf}
-use Rattle.model.specs.Processors.{volumeOf}
 use Rattle.model.specs.Answer.{outputAfter}
 use Rattle.model.specs.Rules.{TestsTell, firstBroken, OneRightAnswer, roomRules}
 use Rattle.model.proofs.Rules.{AllPass, pass-done, one-right-answer, tell-append, room-on, room-tells}
@@ -22,9 +20,8 @@ use Rattle.build.specs.Build.{buildAt}
 use Rattle.inspect.specs.Rules.{checkRules, checkAnswer}
 use Rattle.inspect.proofs.Claims.{done-accepts}
 use Rattle.inspect.proofs.Turn.{check-tells}
-use Rattle.sets.specs.Sets.{IsSet, has, partitionSet}
-use Rattle.sets.proofs.Shifted.{span-is-set}
-use Rattle.sets.proofs.Claims.{partition-has, partition-size}
+use Rattle.sets.specs.Sets.{has, partitionSet}
+use Rattle.sets.proofs.Claims.{partition-is-set, partition-has, partition-size}
 use Rattle.partition_sets.specs.Given.{buildSets, setsRules, setsAnswer, GivesSets}
 use Rattle.partition_sets.specs.Claims.{SetsGivenExactly, SetRight, SetsRight, SetsApart, OneSetsAnswer, SetsKeep, SetsUnique}
 use Rattle.partition_sets.proofs.Given.{partitions-fit, room-next}
@@ -33,10 +30,6 @@ use Rattle.partition_sets.proofs.Given.{partitions-fit, room-next}
 set-at : (b : Build) (p : ℕ) → p < b .partitions → getD (buildSets b) p 0 ≡ partitionSet (placeOf b p)
 unfolding buildSets
 set-at b p below = getD-listed (λ q. partitionSet (placeOf b q)) 0 (b .partitions) p below
-
-partition-is-set : (place : Partition) → IsSet (partitionSet place)
-unfolding partitionSet
-partition-is-set place = span-is-set (place .first) (volumeOf place)
 
 pub sets-right : SetsRight
 sets-right order build said p below =

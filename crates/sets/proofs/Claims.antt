@@ -11,9 +11,10 @@ use Rattle.laws.specs.Choice.{pick}
 use Rattle.laws.specs.Sums.{only, sum}
 use Rattle.laws.proofs.Choice.{both, pick-never}
 use Rattle.laws.proofs.Sums.{sum-none, sum-suc, sum-same}
+use Rattle.model.specs.declared.build.Partition.{Partition}
 use Rattle.model.specs.Limits.{mostProcessors}
 use Rattle.model.specs.Processors.{volumeOf, processorOf, AmongLowest}
-use Rattle.sets.specs.Sets.{has, sizeOfSet, span, partitionSet}
+use Rattle.sets.specs.Sets.{IsSet, has, sizeOfSet, span, partitionSet}
 use Rattle.sets.specs.Claims.{ProcessorsPass, NonePast, SameProcessors, UnionHas, PartitionHas, PartitionSize}
 use Rattle.sets.proofs.Processors.{set-is-set, set-has, set-past, has-below, same-processors, union-has}
 use Rattle.sets.proofs.Shifted.{span-is-set, span-has}
@@ -41,6 +42,10 @@ spanned first count k = pick (leb first k) (ltb k (first + count)) false
 
 spanned-inside : (first count k : ℕ) → first ≤ k → k < first + count → spanned first count k ≡ true
 spanned-inside first count k from to = rw (le-leb first k from, lt-ltb k (first + count) to)
+
+pub partition-is-set : (place : Partition) → IsSet (partitionSet place)
+unfolding partitionSet
+partition-is-set place = span-is-set (place .first) (volumeOf place)
 
 pub partition-has : PartitionHas
 unfolding partitionSet AmongLowest processorOf

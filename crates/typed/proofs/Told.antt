@@ -10,15 +10,14 @@ use lib.Seq.{getD-drop}
 use native.Mathlib.Omega.{arith}
 use Rattle.laws.specs.Choice.{pick}
 use Rattle.laws.proofs.Choice.{both}
-use Rattle.form.specs.Bytes.{semicolon, IsDigit, isDigit, IsMark, isEnd}
+use Rattle.form.specs.Bytes.{semicolon, IsDigit, IsMark, isEnd}
 use Rattle.form.specs.Parts.{count}
 use Rattle.form.specs.Numbers.{digitsOf, Digits, valueOf, isNumber, capped}
 use Rattle.form.proofs.Bytes.{digit-no-semicolon, digit-no-line-feed, mark-no-semicolon, mark-no-line-feed}
-use Rattle.form.proofs.Parts.{length-up-to}
 use Rattle.form.proofs.Numbers.{digits-none}
 use Rattle.typed.specs.declared.DigitsTaken.{DigitsTaken}
 use Rattle.typed.specs.Taken.{TakesDigits, fieldOf, endsAt, TakesFormField}
-use Rattle.form.proofs.Digits.{digits-are, digits-cut, digits-over}
+use Rattle.form.proofs.Digits.{length-digits, digits-are, digits-cut, digits-over}
 use Rattle.typed.proofs.Fields.{field-told, field-is}
 use Rattle.typed.proofs.Shapes.{not-number, number-is}
 
@@ -51,8 +50,7 @@ module _ (s : List ℕ) where
 
 -- the digits end within the text
 pub digits-within : (text : List ℕ) (at : ℕ) → at ≤ length text → at + length (digitsOf (drop at text)) ≤ length text
-unfolding digitsOf
-digits-within text at inside = omega (arith, length-up-to (λ b. pick (isDigit b) false true) (drop at text), length-drop at text)
+digits-within text at inside = omega (arith, length-digits (drop at text), length-drop at text)
 
 -- what stands from the end of the digits on
 pub rest-at : (text : List ℕ) (at : ℕ) (more : ℕ) → getD (drop more (drop at text)) 0 0 ≡ getD text (at + more) 0
