@@ -18,22 +18,22 @@ module _ {higher : ℕ → Bool} {i n blocking : ℕ} {releases pending serves :
   Busy u = 0 < overBoth higher i n (λ k. pending k u + releases u k)
 
   -- their service before t, their work released before t, and what is pending
-  abbrev served : ℕ → ℕ
+  abbrev pub served : ℕ → ℕ
   served t = overBoth higher i n (λ k. sum (serves k) t)
 
-  abbrev released : ℕ → ℕ
+  abbrev pub released : ℕ → ℕ
   released t = overBoth higher i n (λ k. sum (λ u. releases u k) t)
 
-  abbrev waits : ℕ → ℕ
+  abbrev pub waits : ℕ → ℕ
   waits t = overBoth higher i n (λ k. pending k t)
 
-  served-suc : (t : ℕ) → served (suc t) ≡ served t + overBoth higher i n (λ k. serves k t)
+  pub served-suc : (t : ℕ) → served (suc t) ≡ served t + overBoth higher i n (λ k. serves k t)
   served-suc t = both-same higher i n _ _ (λ k. sum-suc (serves k) t) ∙ both-add higher i n (λ k. sum (serves k) t) (λ k. serves k t)
 
   released-suc : (t : ℕ) → released (suc t) ≡ released t + overBoth higher i n (λ k. releases t k)
   released-suc t = both-same higher i n _ _ (λ k. sum-suc (λ u. releases u k) t) ∙ both-add higher i n (λ k. sum (λ u. releases u k) t) (λ k. releases t k)
 
-  totals : (t : ℕ) → waits t + served t ≡ released t
+  pub totals : (t : ℕ) → waits t + served t ≡ released t
   totals t = sym (both-add higher i n (λ k. pending k t) (λ k. sum (serves k) t)) ∙ both-same higher i n _ _ (λ k. S .conserved k t)
 
   busy-parts : (t : ℕ) → overBoth higher i n (λ k. pending k t + releases t k) ≡ waits t + overBoth higher i n (λ k. releases t k)
@@ -69,10 +69,10 @@ module _ {higher : ℕ → Bool} {i n blocking : ℕ} {releases pending serves :
 
 module _ {higher : ℕ → Bool} {i n blocking : ℕ} {most : ℕ → ℕ → ℕ} {period cost jitter : ℕ} {releases pending serves : ℕ → ℕ → ℕ} {carried base : ℕ → ℕ}
     (S : Service higher i n blocking releases pending serves carried) (F : Arrivals i most period cost jitter releases base) (a : ℕ) (job : 0 < releases a i) where
-  abbrev own-work : ℕ → ℕ
+  abbrev pub own-work : ℕ → ℕ
   own-work t = sum (λ u. releases u i) t
 
-  abbrev own-served : ℕ → ℕ
+  abbrev pub own-served : ℕ → ℕ
   own-served t = sum (serves i) t
 
   -- what higher tasks release in x + 1 ticks
@@ -151,7 +151,7 @@ module _ {higher : ℕ → Bool} {i n blocking : ℕ} {most : ℕ → ℕ → �
           )
 
     -- by w ticks after t₀ task i has been served more than its earlier jobs hold
-    begun-by : (q w : ℕ) → own-work a ≤ own-work t₀ + q * cost → blocking + q * cost + overHigher higher n (λ k. most k w) ≤ w → own-work a < own-served (t₀ + suc w)
+    pub begun-by : (q w : ℕ) → own-work a ≤ own-work t₀ + q * cost → blocking + q * cost + overHigher higher n (λ k. most k w) ≤ w → own-work a < own-served (t₀ + suc w)
     begun-by q w few fits = go (decLt (own-work a) (own-served (t₀ + suc w)))
       where
         go : Dec (own-work a < own-served (t₀ + suc w)) → own-work a < own-served (t₀ + suc w)
@@ -164,7 +164,7 @@ module _ {higher : ℕ → Bool} {i n blocking : ℕ} {most : ℕ → ℕ → �
     number L pos fits = let r = F .own t₀ a t₀≤a job in (r .0, r .1, r .2, omega (arith, in-window L pos fits, r .2, F .near a job))
 
   -- a tick that serves i, when it has been served what was released before a, comes at a or later
-  not-early : (s : ℕ) → own-work a ≤ own-served s → serves i s ≡ 1 → a ≤ s
+  pub not-early : (s : ℕ) → own-work a ≤ own-served s → serves i s ≡ 1 → a ≤ s
   not-early s h one = go (decLe a s)
     where
       go : Dec (a ≤ s) → a ≤ s

@@ -8,8 +8,9 @@ use Rattle.machine.specs.Pattern.{recordOf, patternOf}
 use Rattle.machine.specs.Box.{boxBefore}
 use Rattle.machine.specs.Claims.{AgreeOn}
 use Rattle.machine.proofs.Isolation.{agree-on, state-same}
+use Rattle.search.specs.Smallest.{numberFound}
 use Rattle.search.proofs.Smallest.{smallest-same}
-use Rattle.finish.specs.Finish.{usedUp, mostTick, finishFound, foundTick, finishOf}
+use Rattle.finish.specs.Finish.{usedUp, mostTick, finishFound, finishOf}
 use Rattle.finish.specs.Claims.{RunsApart}
 
 pub runs-apart : RunsApart
@@ -17,8 +18,8 @@ unfolding finishOf finishFound
 runs-apart o b p one other same i j equal home =
     let r = recordOf one i in
     let agree : AgreeOn (membersOf b (homeOf b (r .task))) (patternOf one) (patternOf other) = rw home (agree-on b p one other same) in
-    ap foundTick
+    ap numberFound
     (smallest-same (λ tick. usedUp (r .task) (r .tick) (boxBefore o b (patternOf one) tick (homeOf b (r .task)) .running))
     (λ tick. usedUp (r .task) (r .tick) (boxBefore o b (patternOf other) tick (homeOf b (r .task)) .running)) 0 mostTick
     (λ tick from. ap (λ (s : State). usedUp (r .task) (r .tick) (s .running)) (state-same o (membersOf b (homeOf b (r .task))) (patternOf one) (patternOf other) agree tick)))
-    ∙ ap (λ (x : Release). foundTick (finishFound o b (patternOf other) (x .task) (x .tick))) equal
+    ∙ ap (λ (x : Release). numberFound (finishFound o b (patternOf other) (x .task) (x .tick))) equal

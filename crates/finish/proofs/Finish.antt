@@ -11,6 +11,7 @@ use borrow.Author.Tests.{eq-eqb, eqb-true}
 use Rattle.laws.proofs.Choice.{refuted}
 use Rattle.laws.proofs.Every.{clash, and-both, both-and}
 use Rattle.search.specs.declared.Found.the-variants.{At}
+use Rattle.search.specs.Smallest.{numberFound}
 use Rattle.search.proofs.Smallest.{smallest-at}
 use Rattle.model.specs.declared.order.Order.{Order}
 use Rattle.model.specs.declared.build.Build.{Build}
@@ -24,7 +25,7 @@ use Rattle.machine.proofs.Work.{theirs, theirs-of}
 use Rattle.machine.proofs.Isolation.{home-member}
 use Rattle.machine.proofs.Script.{record-released}
 use Rattle.machine.proofs.Box.{finishes-once}
-use Rattle.finish.specs.Finish.{usedUp, mostTick, finishFound, foundTick, finishOf}
+use Rattle.finish.specs.Finish.{usedUp, mostTick, finishFound, finishOf}
 use Rattle.finish.specs.Claims.{Short, FinishesAt, latest, EveryJobFinishes, FinishTickIsOne}
 use Rattle.finish.proofs.Grid.{total, total-most, released-most}
 use Rattle.finish.proofs.Rest.{rests}
@@ -54,7 +55,7 @@ module _ (o : Order) (b : Build) where
 
 pub finish-tick-is-one : FinishTickIsOne
 unfolding finishOf
-finish-tick-is-one o b script i finish small ends = ap foundTick (found-at o b (patternOf script) (recordOf script i .task) (recordOf script i .tick) finish small ends)
+finish-tick-is-one o b script i finish small ends = ap numberFound (found-at o b (patternOf script) (recordOf script i .task) (recordOf script i .tick) finish small ends)
 
 module _ (o : Order) (b : Build) (script : List Release) (legal : LegalScript o script) (short : Short script) where
   work-most : total script ≤ 1_073_740_800

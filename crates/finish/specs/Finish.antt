@@ -5,9 +5,8 @@ use mathlib.Core.List.{List}
 use lib.Dec.{eqb}
 use lib.ListN.{length}
 use Rattle.laws.specs.Joined.{listed}
-use Rattle.search.specs.Smallest.{smallest}
+use Rattle.search.specs.Smallest.{smallest, numberFound}
 use Rattle.search.specs.declared.Found.{Found}
-use Rattle.search.specs.declared.Found.the-variants.{At, Nothing}
 use Rattle.model.specs.declared.order.Order.{Order}
 use Rattle.model.specs.declared.build.Build.{Build}
 use Rattle.model.specs.declared.build.Release.{Release}
@@ -29,13 +28,9 @@ mostTick = 4_294_967_295
 unfoldable pub finishFound : Order → Build → Pattern → (task release : ℕ) → Found
 finishFound o b releases task release = smallest (λ tick. usedUp task release (boxBefore o b releases tick (homeOf b task) .running)) 0 mostTick
 
-abbrev pub foundTick : Found → ℕ
-foundTick (At tick) = tick
-foundTick Nothing = 0
-
 -- the finish tick of record i; Claims.antt says that a legal script's job always has one
 unfoldable pub finishOf : Order → Build → List Release → (i : ℕ) → ℕ
-finishOf o b script i = foundTick (finishFound o b (patternOf script) (recordOf script i .task) (recordOf script i .tick))
+finishOf o b script i = numberFound (finishFound o b (patternOf script) (recordOf script i .task) (recordOf script i .tick))
 
 -- "one 32-bit finish tick per record"
 unfoldable pub finishTicks : Order → Build → List Release → List ℕ

@@ -65,14 +65,14 @@ module _ (o : Order) (s : List ℕ) (laid : Laid) (is : LaysOut o s laid) where
 
 -- the order's, then the build's
 module _ (order build : List ℕ) (reading : Reading) (is : Reads order reading) where
-  read : firstBroken 0 (orderRules order) ≡ reading .answer
+  pub read : firstBroken 0 (orderRules order) ≡ reading .answer
   read = sym (read-answer order) ∙ ap (λ (r : Reading). r .answer) (sym is)
 
   pub order-refused : {cause : Refusal} → reading .answer ≡ Refused cause → checkedBy (Refused cause) emptyOrder emptyBuild ≡ checkedBy (checkAnswer order build) (orderAt order) (buildAt build)
   order-refused {cause} e = ap (λ (x : Answer). checkedBy x (orderAt order) (buildAt build)) (sym (order-stop order build (read ∙ e)))
 
   module _ {count : ℕ} (done : reading .answer ≡ Done count) where
-    same-order : reading .order ≡ orderAt order
+    pub same-order : reading .order ≡ orderAt order
     same-order = ap (λ (r : Reading). r .order) is ∙ read-order order (ap (λ (r : Reading). r .answer) (sym is) ∙ done)
 
     pub order-within : WithinLimits (reading .order)

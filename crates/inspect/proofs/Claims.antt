@@ -53,7 +53,7 @@ module _ (order : List ℕ) where
             record { width-in = t .0; period-in = t .1 .0; deadline-in = t .1 .1 .0; cost-in = t .1 .1 .1 .0 });
       }
 
-  order-kept : OrderRight order → AllKept (orderRules order)
+  pub order-kept : OrderRight order → AllKept (orderRules order)
   unfolding AllKept orderRules layoutRules headerRules spareRules rangeRules
   order-kept r =
       let n = headerOf order .tasks in

@@ -2,7 +2,7 @@
 use Prim.Native.Nat.{_≤_}
 use native.Mathlib.Omega.{arith}
 use Rattle.model.specs.declared.answer.Refusal.{Refusal}
-use Rattle.model.specs.declared.answer.Refusal.the-variants.{OfOrder, OfCall, OfBuild, OfScript, OfText, OfList}
+use Rattle.model.specs.declared.answer.Refusal.the-variants.{OfOrder, OfCall, OfBuild, OfScript, OfText, OfList, OfLate}
 use Rattle.model.specs.declared.answer.OrderCause.{OrderCause}
 use Rattle.model.specs.declared.answer.OrderCause.the-variants.{OrderShort, OrderVersion, Processors, Tasks, OrderLength, HeaderSpare, TaskSpare, Width, Period, Deadline, RunTime}
 use Rattle.model.specs.declared.answer.CallCause.{CallCause}
@@ -15,7 +15,9 @@ use Rattle.model.specs.declared.answer.TextCause.{TextCause}
 use Rattle.model.specs.declared.answer.TextCause.the-variants.{LineShape, LineNumber, LineCount}
 use Rattle.model.specs.declared.answer.ListCause.{ListCause}
 use Rattle.model.specs.declared.answer.ListCause.the-variants.{ListShape, ListNumber, ListRange, ListLength}
-use Rattle.model.specs.Answer.{orderNumber, callNumber, buildNumber, scriptNumber, textNumber, listNumber, causeNumber}
+use Rattle.model.specs.declared.answer.LateCause.{LateCause}
+use Rattle.model.specs.declared.answer.LateCause.the-variants.{NotLate, ManyRecords}
+use Rattle.model.specs.Answer.{orderNumber, callNumber, buildNumber, scriptNumber, textNumber, listNumber, lateNumber, causeNumber}
 
 order-number-small : (cause : OrderCause) → orderNumber cause ≤ 65
 order-number-small OrderShort = omega arith
@@ -68,6 +70,10 @@ list-number-small (ListNumber place) = omega arith
 list-number-small (ListRange place) = omega arith
 list-number-small ListLength = omega arith
 
+late-number-small : (cause : LateCause) → lateNumber cause ≤ 65
+late-number-small NotLate = omega arith
+late-number-small ManyRecords = omega arith
+
 pub cause-number-small : (cause : Refusal) → causeNumber cause ≤ 65
 cause-number-small (OfOrder cause) = order-number-small cause
 cause-number-small (OfCall cause) = call-number-small cause
@@ -75,3 +81,4 @@ cause-number-small (OfBuild cause) = build-number-small cause
 cause-number-small (OfScript cause) = script-number-small cause
 cause-number-small (OfText cause) = text-number-small cause
 cause-number-small (OfList cause) = list-number-small cause
+cause-number-small (OfLate cause) = late-number-small cause

@@ -1,4 +1,5 @@
 pub mod Output
 pub mod Rules
+pub mod Causes
 pub mod Wrote
 pub mod Ranges

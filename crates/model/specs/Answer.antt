@@ -3,7 +3,7 @@ use Prim.Native.Nat.{ℕ}
 use mathlib.Core.Path.{_≡_}
 use mathlib.Core.List.{List, _++_}
 use lib.ListN.{length, drop}
-use Rattle.model.specs.Kinds.{Answer, Done, Refused, Refusal, OfOrder, OfCall, OfBuild, OfScript, OfText, OfList, OrderCause, OrderShort, OrderVersion, Processors, Tasks, OrderLength, HeaderSpare, TaskSpare, Width, Period, Deadline, RunTime, CallCause, FirstFit, Output, Columns, BuildCause, BuildShort, BuildMismatch, BuildLength, BuildSpare, PartitionPlace, TaskPartition, Rank, Window, Start, Late, Response, ScriptCause, ScriptLength, RecordSpare, RecordTask, RecordOrder, JobLength, ReleaseGap, FinishPlaces, TextCause, LineShape, LineNumber, LineCount, ListCause, ListShape, ListNumber, ListRange, ListLength}
+use Rattle.model.specs.Kinds.{Answer, Done, Refused, Refusal, OfOrder, OfCall, OfBuild, OfScript, OfText, OfList, OfLate, OrderCause, OrderShort, OrderVersion, Processors, Tasks, OrderLength, HeaderSpare, TaskSpare, Width, Period, Deadline, RunTime, CallCause, FirstFit, Output, Columns, BuildCause, BuildShort, BuildMismatch, BuildLength, BuildSpare, PartitionPlace, TaskPartition, Rank, Window, Start, Late, Response, ScriptCause, ScriptLength, RecordSpare, RecordTask, RecordOrder, JobLength, ReleaseGap, FinishPlaces, TextCause, LineShape, LineNumber, LineCount, ListCause, ListShape, ListNumber, ListRange, ListLength, LateCause, NotLate, ManyRecords}
 
 -- "65,535 where none applies"
 abbrev pub noPlace : ℕ
@@ -114,6 +114,15 @@ listPlace (ListNumber at) = at
 listPlace (ListRange at) = at
 listPlace ListLength = noPlace
 
+-- "63 the build isn't refused 29, 64 more than 1,024 records"
+abbrev pub lateNumber : LateCause → ℕ
+lateNumber NotLate = 63
+lateNumber ManyRecords = 64
+
+abbrev pub latePlace : LateCause → ℕ
+latePlace NotLate = noPlace
+latePlace ManyRecords = noPlace
+
 abbrev pub causeNumber : Refusal → ℕ
 causeNumber (OfOrder cause) = orderNumber cause
 causeNumber (OfCall cause) = callNumber cause
@@ -121,6 +130,7 @@ causeNumber (OfBuild cause) = buildNumber cause
 causeNumber (OfScript cause) = scriptNumber cause
 causeNumber (OfText cause) = textNumber cause
 causeNumber (OfList cause) = listNumber cause
+causeNumber (OfLate cause) = lateNumber cause
 
 abbrev pub causePlace : Refusal → ℕ
 causePlace (OfOrder cause) = orderPlace cause
@@ -129,6 +139,7 @@ causePlace (OfBuild cause) = buildPlace cause
 causePlace (OfScript cause) = scriptPlace cause
 causePlace (OfText cause) = textPlace cause
 causePlace (OfList cause) = listPlace cause
+causePlace (OfLate cause) = latePlace cause
 
 -- "0 means done: place 65,535, count of bytes or finish ticks written"; "Refusals have count 0"
 unfoldable pub answerNumber : Answer → ℕ

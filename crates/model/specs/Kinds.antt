@@ -9,7 +9,7 @@ pub use Rattle.model.specs.declared.answer.Reading.{Reading}
 pub use Rattle.model.specs.declared.answer.Answer.{Answer}
 pub use Rattle.model.specs.declared.answer.Answer.the-variants.{Done, Refused}
 pub use Rattle.model.specs.declared.answer.Refusal.{Refusal}
-pub use Rattle.model.specs.declared.answer.Refusal.the-variants.{OfOrder, OfCall, OfBuild, OfScript, OfText, OfList}
+pub use Rattle.model.specs.declared.answer.Refusal.the-variants.{OfOrder, OfCall, OfBuild, OfScript, OfText, OfList, OfLate}
 pub use Rattle.model.specs.declared.answer.OrderCause.{OrderCause}
 pub use Rattle.model.specs.declared.answer.OrderCause.the-variants.{OrderShort, OrderVersion, Processors, Tasks, OrderLength, HeaderSpare, TaskSpare, Width, Period, Deadline, RunTime}
 pub use Rattle.model.specs.declared.answer.CallCause.{CallCause}
@@ -22,3 +22,5 @@ pub use Rattle.model.specs.declared.answer.TextCause.{TextCause}
 pub use Rattle.model.specs.declared.answer.TextCause.the-variants.{LineShape, LineNumber, LineCount}
 pub use Rattle.model.specs.declared.answer.ListCause.{ListCause}
 pub use Rattle.model.specs.declared.answer.ListCause.the-variants.{ListShape, ListNumber, ListRange, ListLength}
+pub use Rattle.model.specs.declared.answer.LateCause.{LateCause}
+pub use Rattle.model.specs.declared.answer.LateCause.the-variants.{NotLate, ManyRecords}

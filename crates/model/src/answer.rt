@@ -1,7 +1,7 @@
 // The answers, and the causes of refusals by the thing refused; specs/Answer.antt gives each its number and place.
 use crate::Order;
 ghost use mathlib.Core.Path.{_≡_};
-ghost use Rattle.model.specs.Answer.{orderNumber, orderPlace, callNumber, callPlace, buildNumber, buildPlace, scriptNumber, scriptPlace, textNumber, textPlace, listNumber, listPlace, causeNumber, causePlace};
+ghost use Rattle.model.specs.Answer.{orderNumber, orderPlace, callNumber, callPlace, buildNumber, buildPlace, scriptNumber, scriptPlace, textNumber, textPlace, listNumber, listPlace, lateNumber, latePlace, causeNumber, causePlace};
 
 // What is wrong with an order: 1 to 10. A place is a task.
 pub enum OrderCause {
@@ -66,6 +66,12 @@ pub enum ListCause {
     ListLength,
 }
 
+// Why there is no late script to show: 63 and 64. Neither has a place.
+pub enum LateCause {
+    NotLate,
+    ManyRecords,
+}
+
 // Why something is refused.
 pub enum Refusal {
     OfOrder(OrderCause),
@@ -74,6 +80,7 @@ pub enum Refusal {
     OfScript(ScriptCause),
     OfText(TextCause),
     OfList(ListCause),
+    OfLate(LateCause),
 }
 
 // "65,535 where none applies"
@@ -253,6 +260,26 @@ impl ListCause {
     }
 }
 
+impl LateCause {
+    pub fn number(self) -> u16
+        ensures { λ r. ⌜ r ≡ lateNumber self ⌝ }
+    {
+        match self {
+            LateCause::NotLate => 63,
+            LateCause::ManyRecords => 64,
+        }
+    }
+
+    pub fn place(self) -> u16
+        ensures { λ r. ⌜ r ≡ latePlace self ⌝ }
+    {
+        match self {
+            LateCause::NotLate => NOWHERE,
+            LateCause::ManyRecords => NOWHERE,
+        }
+    }
+}
+
 impl Refusal {
     // "Every answer has a number, a place and a count"
     pub fn number(self) -> u16
@@ -265,6 +292,7 @@ impl Refusal {
             Refusal::OfScript(cause) => cause.number(),
             Refusal::OfText(cause) => cause.number(),
             Refusal::OfList(cause) => cause.number(),
+            Refusal::OfLate(cause) => cause.number(),
         }
     }
 
@@ -278,6 +306,7 @@ impl Refusal {
             Refusal::OfScript(cause) => cause.place(),
             Refusal::OfText(cause) => cause.place(),
             Refusal::OfList(cause) => cause.place(),
+            Refusal::OfLate(cause) => cause.place(),
         }
     }
 }

@@ -7,6 +7,7 @@ mod order;
 pub use answer::Answer;
 pub use answer::BuildCause;
 pub use answer::CallCause;
+pub use answer::LateCause;
 pub use answer::ListCause;
 pub use answer::OrderCause;
 pub use answer::Reading;

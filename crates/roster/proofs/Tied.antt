@@ -27,15 +27,15 @@ module _ (rows : List ℕ) (r : ℕ) (task : Task) (is : RowOf rows r task) wher
   unfolding cost
   row-cost = is .cost-is
 
-  row-work : (w : ℕ) → workBy (rowTask rows r) w ≡ workBy task w
+  pub row-work : (w : ℕ) → workBy (rowTask rows r) w ≡ workBy task w
   unfolding workBy releasesBy
   row-work w = rw (row-cost, is .period) refl
 
-  row-share : shareOf (rowTask rows r) ≡ shareOf task
+  pub row-share : shareOf (rowTask rows r) ≡ shareOf task
   unfolding shareOf
   row-share = rw (row-cost, is .period) refl
 
-  row-sized : Sized task → Sized (rowTask rows r)
+  pub row-sized : Sized task → Sized (rowTask rows r)
   row-sized s =
       record {
         cost-least = rw row-cost (s .cost-least);

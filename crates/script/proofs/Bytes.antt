@@ -1,20 +1,18 @@
 -- The bytes of an accepted script, and how short it is.
 use mathlib.Core.Path.{_≡_, refl, sym, ap, _∙_}
-use mathlib.Core.List.{List, [], _∷_}
-use Prim.Native.Nat.{ℕ, _+_, _*_, _≤_, _<_}
+use mathlib.Core.List.{List}
+use Prim.Native.Nat.{ℕ, _+_, _*_, _<_}
 use native.Mathlib.Omega.{arith}
-use lib.ListN.{length, getD, take, drop}
+use lib.ListN.{take, drop}
 use lib.Seq.{take-all}
-use Rattle.laws.specs.Joined.{joined}
 use Rattle.laws.proofs.Joined.{joined-same, joined-parts}
 use Rattle.bits.specs.Layout.{Bytes, recordBytes, numbersAt}
 use Rattle.bits.proofs.Records.{writes-back}
 use Rattle.model.specs.declared.order.Order.{Order}
-use Rattle.model.specs.declared.build.Release.{Release}
 use Rattle.model.specs.Layouts.{releaseRecord, scriptLength}
 use Rattle.machine.specs.Pattern.{recordOf}
 use Rattle.finish.specs.Claims.{Short}
-use Rattle.script.specs.Script.{releaseNumbers, releaseFields, releaseAt, spareAt, recordsIn, scriptOf}
+use Rattle.script.specs.Script.{releaseNumbers, releaseBytes, scriptBytes, releaseFields, recordsIn, scriptOf}
 use Rattle.script.specs.Claims.{ScriptAccepted, ScriptBytes}
 use Rattle.script.proofs.Records.{script-length, script-record, tick-small, duration-small}
 
@@ -23,16 +21,18 @@ module _ (o : Order) (s : List ℕ) (places : ℕ) (accepted : ScriptAccepted o 
   unfolding releaseFields numbersAt
   numbers-are i l = rw (script-record s i l, ← accepted .spares i l)
 
-  record-bytes : Bytes s → (i : ℕ) → i < recordsIn s → take 6 (drop (0 + 6 * i) s) ≡ recordBytes (releaseRecord 1) (releaseNumbers (recordOf (scriptOf s) i) 0)
+  record-bytes : Bytes s → (i : ℕ) → i < recordsIn s → take 6 (drop (0 + 6 * i) s) ≡ releaseBytes (recordOf (scriptOf s) i)
   record-bytes all i l =
       let whole = accepted .whole in
       let at : 0 + 6 * i ≡ 6 * i = omega arith in
       rw at (sym (ap (recordBytes (releaseRecord 1)) (numbers-are i l) ∙ writes-back s (6 * i) 6 (releaseRecord 1) all refl (omega arith)))
 
-  pub script-bytes-are : Bytes s → s ≡ joined (λ i. recordBytes (releaseRecord 1) (releaseNumbers (recordOf (scriptOf s) i) 0)) (recordsIn s)
+  pub script-bytes-are : Bytes s → s ≡ scriptBytes (scriptOf s)
+  unfolding scriptBytes
   script-bytes-are all =
+      rw (script-length s) (
       sym (take-all (6 * recordsIn s) s (omega (arith, accepted .whole)))
-      ∙ (sym (joined-parts s 0 6 (recordsIn s)) ∙ joined-same _ _ (recordsIn s) (record-bytes all))
+      ∙ (sym (joined-parts s 0 6 (recordsIn s)) ∙ joined-same _ _ (recordsIn s) (record-bytes all)))
 
   pub accepted-short : Short (scriptOf s)
   accepted-short =

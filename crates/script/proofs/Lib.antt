@@ -7,3 +7,4 @@ pub mod Held
 pub mod Tells
 pub mod Accepted
 pub mod Bytes
+pub mod Back

@@ -4,16 +4,14 @@ use mathlib.Core.Path.{_≡_}
 use mathlib.Core.List.{List}
 use mathlib.Core.Logic.{_↔_}
 use lib.ListN.{length}
-use Rattle.bits.specs.Layout.{Bytes, recordBytes}
-use Rattle.laws.specs.Joined.{joined}
+use Rattle.bits.specs.Layout.{Bytes}
 use Rattle.model.specs.declared.order.Order.{Order}
-use Rattle.model.specs.declared.build.Release.{Release}
 use Rattle.model.specs.declared.answer.Answer.{Answer}
 use Rattle.model.specs.Limits.{mostRecords}
-use Rattle.model.specs.Layouts.{releaseRecord, scriptLength}
+use Rattle.model.specs.Layouts.{scriptLength}
 use Rattle.model.specs.Rules.{AllKept, RightAnswer, firstBroken}
-use Rattle.machine.specs.Pattern.{LegalScript, recordOf}
-use Rattle.script.specs.Script.{releaseNumbers, releaseFields, releaseAt, spareAt, recordsIn, scriptOf, scriptRules}
+use Rattle.machine.specs.Pattern.{LegalScript}
+use Rattle.script.specs.Script.{spareAt, recordsIn, scriptOf, scriptBytes, scriptRules}
 
 -- the bytes are whole records, few enough, with a place for each finish tick and no spare bit set, and the script is legal
 pub record ScriptAccepted (o : Order) (s : List ℕ) (places : ℕ) : Type 0 where
@@ -32,7 +30,6 @@ abbrev pub OneScriptAnswer : Type 0
 OneScriptAnswer = (o : Order) (s : List ℕ) (places : ℕ) (answer : Answer)
     → (answer ≡ firstBroken (recordsIn s) (scriptRules o s places)) ↔ RightAnswer (recordsIn s) (scriptRules o s places) answer
 
--- "Script: per record tick 20, task 5, length 20, spare 3.": the bytes of an accepted script are those of its records, and of no others
+-- the bytes of an accepted script are those of its records, and of no others
 abbrev pub ScriptBytes : Type 0
-ScriptBytes = (o : Order) (s : List ℕ) (places : ℕ) → Bytes s → ScriptAccepted o s places
-    → s ≡ joined (λ i. recordBytes (releaseRecord 1) (releaseNumbers (recordOf (scriptOf s) i) 0)) (recordsIn s)
+ScriptBytes = (o : Order) (s : List ℕ) (places : ℕ) → Bytes s → ScriptAccepted o s places → s ≡ scriptBytes (scriptOf s)

@@ -7,7 +7,7 @@ use lib.ListN.{length, getD}
 use lib.Dec.{leb, ltb, eqb}
 use Rattle.laws.specs.Choice.{pick}
 use Rattle.laws.specs.Joined.{joined, listed}
-use Rattle.bits.specs.Layout.{bytesIn, numbersAt}
+use Rattle.bits.specs.Layout.{bytesIn, recordBytes, numbersAt}
 use Rattle.model.specs.declared.order.Order.{Order}
 use Rattle.model.specs.declared.build.Release.{Release}
 use Rattle.model.specs.declared.answer.Refusal.the-variants.{OfScript}
@@ -16,7 +16,7 @@ use Rattle.model.specs.Limits.{mostRecords}
 use Rattle.model.specs.Layouts.{releaseRecord, scriptLength}
 use Rattle.model.specs.Rules.{Fact, Rule, rule, equal, atMost, inRange}
 use Rattle.demand.specs.Releases.{periodOf}
-use Rattle.machine.specs.Pattern.{runOf, Before}
+use Rattle.machine.specs.Pattern.{runOf, recordOf, Before}
 
 -- a release as the numbers in its record's fields, with its spare bits; and the release that such numbers make
 abbrev pub releaseNumbers : Release → (spare : ℕ) → List ℕ
@@ -24,6 +24,13 @@ releaseNumbers r spare = r .tick ∷ r .task ∷ r .duration ∷ spare ∷ []
 
 abbrev pub releaseFrom : List ℕ → Release
 releaseFrom numbers = record { tick = getD numbers 0 0; task = getD numbers 1 0; duration = getD numbers 2 0 }
+
+-- "Script: per record tick 20, task 5, length 20, spare 3.": a record's bytes, and those of all records of a script in turn
+abbrev pub releaseBytes : Release → List ℕ
+releaseBytes r = recordBytes (releaseRecord 1) (releaseNumbers r 0)
+
+unfoldable pub scriptBytes : List Release → List ℕ
+scriptBytes script = joined (λ i. releaseBytes (recordOf script i)) (length script)
 
 -- the numbers in record i
 unfoldable pub releaseFields : List ℕ → ℕ → List ℕ

@@ -14,6 +14,11 @@ firstOf passes from (suc k) = elim (passes from) [ true ↦ At from | false ↦ 
 unfoldable pub smallest : (ℕ → Bool) → ℕ → ℕ → Found
 smallest passes least most = firstOf passes least (suc most - least)
 
+-- the number that a search found, 0 if there is none
+abbrev pub numberFound : Found → ℕ
+numberFound (At t) = t
+numberFound Nothing = 0
+
 -- what it is to be that number
 pub record IsSmallest (passes : ℕ → Bool) (least most t : ℕ) : Type 0 where
   pub from : least ≤ t
