@@ -1,0 +1,6 @@
+pub mod Count
+pub mod Keys
+pub mod Records
+pub mod Script
+pub mod Comings
+pub mod Alike

@@ -1,0 +1,2 @@
+pub mod Comings
+pub mod Listed
