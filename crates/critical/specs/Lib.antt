@@ -1,0 +1,3 @@
+pub mod Pattern
+pub mod Late
+pub mod Claims
