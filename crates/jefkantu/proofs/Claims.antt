@@ -2,10 +2,11 @@
 use mathlib.Core.Path.{sym, _∙_}
 use lib.ListN.{length}
 use Rattle.jefkantu.specs.Word.{WordTells}
-use Rattle.jefkantu.specs.Claims.{ReadUnique, WriteUnique, PlanUnique, CheckUnique, RunUnique, ReadFormUnique, WriteFormUnique, WriteSetUnique, ReadSetUnique, PartitionSetsUnique, ReadTells, WriteTells, PlanTells, CheckTells, RunTells, ReadFormTells, WriteFormTells, WriteSetTells, ReadSetTells, PartitionSetsTell}
+use Rattle.jefkantu.specs.Claims.{ReadUnique, WriteUnique, PlanUnique, CheckUnique, RunUnique, ReadFormUnique, WriteFormUnique, WriteSetUnique, ReadSetUnique, PartitionSetsUnique, LateUnique, ReadTells, WriteTells, PlanTells, CheckTells, RunTells, ReadFormTells, WriteFormTells, WriteSetTells, ReadSetTells, PartitionSetsTell, LateTells}
 use Rattle.jefkantu.proofs.Word.{word-tells}
 use Rattle.jefkantu.proofs.Places.{read-fits, write-fits, plan-fits, check-fits, run-fits, read-text-fits, write-text-fits}
 use Rattle.jefkantu.proofs.Listed.{list-fits, write-list-fits, sets-fit}
+use Rattle.jefkantu.proofs.Shown.{late-fits}
 
 pub read-unique : ReadUnique
 unfolding ReadUnique
@@ -47,6 +48,10 @@ pub partition-sets-unique : PartitionSetsUnique
 unfolding PartitionSetsUnique
 partition-sets-unique order build output word other after others r s = (r .answered ∙ sym (s .answered), r .written ∙ sym (s .written))
 
+pub late-unique : LateUnique
+unfolding LateUnique
+late-unique order build output word other after others r s = (r .answered ∙ sym (s .answered), r .written ∙ sym (s .written))
+
 pub read-tells : ReadTells
 unfolding ReadTells WordTells
 read-tells order numbers word after r = word-tells _ (read-fits order) word (r .answered)
@@ -86,3 +91,7 @@ read-set-tells text set word after r = word-tells _ (list-fits text) word (r .an
 pub partition-sets-tell : PartitionSetsTell
 unfolding PartitionSetsTell WordTells
 partition-sets-tell order build output word after r = word-tells _ (sets-fit order build (length output)) word (r .answered)
+
+pub late-tells : LateTells
+unfolding LateTells WordTells
+late-tells order build output word after r = word-tells _ (late-fits order build (length output)) word (r .answered)

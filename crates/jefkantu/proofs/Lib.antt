@@ -4,5 +4,6 @@ pub mod Word
 pub mod Fits
 pub mod Places
 pub mod Listed
+pub mod Shown
 pub mod Surface
 pub mod Claims

@@ -58,7 +58,7 @@ unfolding PlacesFit roomRules
 room-places size room = (omega arith, tt)
 
 -- whatever bytes are read
-order-places : (s : List ℕ) → PlacesFit (orderRules s)
+pub order-places : (s : List ℕ) → PlacesFit (orderRules s)
 unfolding orderRules layoutRules orderAt
 order-places s =
     let few : headerOf s .tasks ≤ 65_536 = omega (arith, tasks-small s) in

@@ -14,12 +14,14 @@ use Rattle.sets.specs.Sets.{IsSet}
 use Rattle.list.specs.Read.{readList}
 use Rattle.list_out.specs.Write.{writeListAnswer}
 use Rattle.partition_sets.specs.Given.{setsAnswer}
+use Rattle.late.specs.Shown.{lateAnswer}
 use Rattle.jefkantu.specs.Word.{TellsAnswer}
 use Rattle.jefkantu.specs.Surface.{ReadsOrder, WritesColumns}
 use Rattle.jefkantu.specs.Builds.{PlansBuild, ChecksBuild}
 use Rattle.jefkantu.specs.Runs.{RunsScript}
 use Rattle.jefkantu.specs.Texts.{ReadsForm, WritesForm}
 use Rattle.jefkantu.specs.Lists.{WritesSet, ReadsSet, GivesPartitionSets}
+use Rattle.jefkantu.specs.Late.{ShowsLateScript}
 
 -- "the statement leaves one possible number, place, count and content of the caller's memory"
 unfoldable pub ReadUnique : Type 0
@@ -63,6 +65,10 @@ unfoldable pub PartitionSetsUnique : Type 0
 PartitionSetsUnique = (order build output : List ℕ) (word other : ℕ) (after others : List ℕ) →
     GivesPartitionSets order build output word after → GivesPartitionSets order build output other others → (word ≡ other) × (after ≡ others)
 
+unfoldable pub LateUnique : Type 0
+LateUnique = (order build output : List ℕ) (word other : ℕ) (after others : List ℕ) →
+    ShowsLateScript order build output word after → ShowsLateScript order build output other others → (word ≡ other) × (after ≡ others)
+
 -- "Every answer has a number, a place and a count": all three come out of the word, whatever the input
 unfoldable pub ReadTells : Type 0
 ReadTells = (order numbers : List ℕ) (word : ℕ) (after : List ℕ) → ReadsOrder order numbers word after → TellsAnswer word (readOrder order .answer)
@@ -97,3 +103,7 @@ ReadSetTells = (text : List ℕ) (set word after : ℕ) → ReadsSet text set wo
 unfoldable pub PartitionSetsTell : Type 0
 PartitionSetsTell = (order build output : List ℕ) (word : ℕ) (after : List ℕ) →
     GivesPartitionSets order build output word after → TellsAnswer word (setsAnswer order build (length output))
+
+unfoldable pub LateTells : Type 0
+LateTells = (order build output : List ℕ) (word : ℕ) (after : List ℕ) →
+    ShowsLateScript order build output word after → TellsAnswer word (lateAnswer order build (length output))

@@ -4,4 +4,5 @@ pub mod Builds
 pub mod Runs
 pub mod Texts
 pub mod Lists
+pub mod Late
 pub mod Claims

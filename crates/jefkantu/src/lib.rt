@@ -9,6 +9,7 @@ ghost use Rattle.jefkantu.specs.Builds.{PlansBuild, ChecksBuild};
 ghost use Rattle.jefkantu.specs.Runs.{RunsScript};
 ghost use Rattle.jefkantu.specs.Texts.{ReadsForm, WritesForm};
 ghost use Rattle.jefkantu.specs.Lists.{WritesSet, ReadsSet, GivesPartitionSets};
+ghost use Rattle.jefkantu.specs.Late.{ShowsLateScript};
 
 // "65,535 where none applies"
 const NO_PLACE: u64 = 65_535;
@@ -151,5 +152,14 @@ pub extern "C" fn jefkantu_partition_sets(order: &[u8], build: &[u8], out: &mut 
     ensures { λ r. ⌜ GivesPartitionSets (now (order .entry)) (now (build .entry)) (now (out .entry)) r (now (out .exit)) ⌝ }
 {
     let answer = partition_sets::partition_sets(order, build, out);
+    answer_word(answer)
+}
+
+// For a build that the check refuses 29, a script in which a job of the named task is late, into the front of the output.
+#[no_mangle]
+pub extern "C" fn jefkantu_late(order: &[u8], build: &[u8], out: &mut [u8]) -> u64
+    ensures { λ r. ⌜ ShowsLateScript (now (order .entry)) (now (build .entry)) (now (out .entry)) r (now (out .exit)) ⌝ }
+{
+    let answer = late::late(order, build, out);
     answer_word(answer)
 }

@@ -1,3 +1,4 @@
 pub mod Gives
 pub mod Runs
 pub mod Points
+pub mod Late

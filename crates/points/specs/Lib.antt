@@ -1,2 +1,3 @@
 pub mod Sample
 pub mod Points
+pub mod Late

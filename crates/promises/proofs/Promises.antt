@@ -31,8 +31,17 @@ use Rattle.run.proofs.Claims.{run-done-exactly, one-run-answer, runs-only-front
 use Rattle.finish.proofs.Finish.{every-job-finishes, finish-tick-is-one}
 use Rattle.condition.proofs.Kept.{accepted-is-kept}
 use Rattle.condition.proofs.Runs.{runs-in-time}
+use Rattle.critical.proofs.Blocker.{blocker-is-there}
+use Rattle.critical.proofs.Legal.{critical-is-legal}
+use Rattle.critical.proofs.Exact.{critical-is-exact}
+use Rattle.critical.proofs.Late.{too-late-has-first, too-late-misses}
+use Rattle.late.proofs.Answers.{shows-the-named}
+use Rattle.late.proofs.Claims.{shown-exactly, one-late-answer, shows-only-front, showing-unique}
+use Rattle.late.proofs.Box.{refused-late-is-late, written-is-late}
+use Rattle.late.proofs.Exact.{worst-is-exact, exact-where-windows-close}
 use Rattle.points.proofs.Points as table
-use Rattle.promises.specs.Promises.{Condition1, Condition2, Condition3, OrderForm, ProcessorLists, Promises}
+use Rattle.points.proofs.Late.{p5-late}
+use Rattle.promises.specs.Promises.{Condition1, Condition2, Condition3, OrderForm, ProcessorLists, LateFrame, Promises}
 
 pub condition-1 : Condition1
 condition-1 =
@@ -146,5 +155,25 @@ processor-lists =
       worked-out = list-cases;
     }
 
+pub late-frame : LateFrame
+late-frame =
+    record {
+      late = refused-late-is-late;
+      given = shown-exactly;
+      named = shows-the-named;
+      written = written-is-late;
+      blocker = blocker-is-there;
+      first = too-late-has-first;
+      legal = critical-is-legal;
+      to-the-tick = critical-is-exact;
+      misses = too-late-misses;
+      worst = worst-is-exact;
+      exact = exact-where-windows-close;
+      refuses = one-late-answer;
+      keeps = shows-only-front;
+      one-showing = showing-unique;
+      worked-out = p5-late;
+    }
+
 pub promises : Promises
-promises = record { condition-1 = condition-1; condition-2 = condition-2; condition-3 = condition-3; order-form = order-form; processor-lists = processor-lists; points = table.points }
+promises = record { condition-1 = condition-1; condition-2 = condition-2; condition-3 = condition-3; order-form = order-form; processor-lists = processor-lists; late-frame = late-frame; points = table.points }

@@ -20,7 +20,11 @@ use Rattle.run.specs.Claims.{RunDoneExactly, OneRunAnswer, RunsOnlyFront, Write
 use Rattle.finish.specs.Claims.{EveryJobFinishes, FinishTickIsOne}
 use Rattle.condition.specs.Kept.{AcceptedIsKept}
 use Rattle.condition.specs.Runs.{RunsInTime}
+use Rattle.critical.specs.Claims.{BlockerIsThere, CriticalIsLegal, CriticalIsExact, TooLateHasFirst, TooLateMisses}
+use Rattle.late.specs.Claims.{ShownExactly, ShowsTheNamed, OneLateAnswer, ShowsOnlyFront, ShowingUnique, RefusedLateIsLate, WrittenIsLate}
+use Rattle.late.specs.Exact.{WorstIsExact, ExactWhereWindowsClose}
 use Rattle.points.specs.Points as table
+use Rattle.points.specs.Late.{P5Late}
 
 -- "Every order, build and script, however damaged, gets an answer": each function of the library has a contract and no demand on its input,
 -- and a proved function ends. The contracts say which answer:
@@ -152,11 +156,37 @@ pub record ProcessorLists : Type 0 where
   -- lists worked out
   pub worked-out : ListCases
 
+-- R-3: "Support wants a release pattern that really misses."
+pub record LateFrame : Type 0 where
+  -- "Whenever the check answers 29, .. a legal script, of any length, exists in which a job of the named task finishes after its deadline in that partition."
+  pub late : RefusedLateIsLate
+  -- "Give this one": given exactly then, as bytes that 40 to 45 accept, in which the named task's last record is late
+  pub given : ShownExactly
+  pub named : ShowsTheNamed
+  pub written : WrittenIsLate
+  -- "the lower member with the largest C, lowest number among equals", "its first late job"
+  pub blocker : BlockerIsThere
+  pub first : TooLateHasFirst
+  -- of any members, and up to any job of the window: legal, and to the tick as the test says
+  pub legal : CriticalIsLegal
+  pub to-the-tick : CriticalIsExact
+  pub misses : TooLateMisses
+  -- late in the test means late in the box: the worst response is taken by a job of a legal script and by none exceeded
+  pub worst : WorstIsExact
+  pub exact : ExactWhereWindowsClose
+  -- or refused, for its cause only; only the counted front changes; one answer and one content of the memory
+  pub refuses : OneLateAnswer
+  pub keeps : ShowsOnlyFront
+  pub one-showing : ShowingUnique
+  -- P5 as a late frame
+  pub worked-out : P5Late
+
 pub record Promises : Type 0 where
   pub condition-1 : Condition1
   pub condition-2 : Condition2
   pub condition-3 : Condition3
   pub order-form : OrderForm
   pub processor-lists : ProcessorLists
+  pub late-frame : LateFrame
   -- "Points on the line", P1 to P12
   pub points : table.Points
