@@ -64,6 +64,9 @@ extern "C" {
 // The most records of a script, and so the most finish ticks of a run.
 #define JEFKANTU_MOST_RECORDS 1024
 
+// The length of the longest script, in bytes: 1,024 records.
+#define JEFKANTU_MOST_SCRIPT_BYTES 6144
+
 // An order read, as numbers: M, n, then m, T, D and C of 32 tasks, zero past the n tasks.
 #define JEFKANTU_ORDER_NUMBERS 130
 
@@ -155,6 +158,17 @@ uint64_t jefkantu_run(const uint8_t *order, size_t order_len,
                       const uint8_t *build, size_t build_len,
                       const uint8_t *script, size_t script_len,
                       uint32_t *out, size_t out_len);
+
+// Writes a script that shows the late job of a build that the check refuses 29: legal releases with which, in the step
+// machine, a job of the task that the check names finishes after its deadline; of that task's records it is the last. The
+// order's 1 to 10, then 63 where the check's one answer is not 29, 64 where the script has more than 1,024 records, then
+// 12; a refusal leaves the output as it was, and success writes the script's bytes into its counted front. A run through
+// this build is refused 29 too; the script runs through a build of these tasks that the check accepts.
+// The output must overlap neither the build nor the order; these may overlap each other. Where it does, their bytes are
+// written over by the script.
+uint64_t jefkantu_late(const uint8_t *order, size_t order_len,
+                       const uint8_t *build, size_t build_len,
+                       uint8_t *out, size_t out_len);
 
 // Gives the set of each partition of a build: the check, then 12 where there are fewer places than partitions; a refusal
 // leaves the output as it was, and success writes one set per partition into its counted front. The length counts sets.

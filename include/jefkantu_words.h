@@ -20,7 +20,7 @@ static inline const char *jefkantu_words(uint32_t number) {
         case 9: return "D out of range";
         case 10: return "C out of range";
         case 11: return "first fit runs out";
-        case 12: return "output shorter than the order, build, text, list or sets";
+        case 12: return "output shorter than the order, build, text, list, sets or script";
         case 13: return "the writer's columns differ in length";
         case 20: return "build under 3 bytes";
         case 21: return "build version not 1, M or n not the order's, or p not 1 to 32";
@@ -46,6 +46,8 @@ static inline const char *jefkantu_words(uint32_t number) {
         case 60: return "no list could have this byte here, or the text stops short: write numbers and ranges with commas between them, as 0-3,7, and nothing else";
         case 61: return "a number over 63: write processors as 0 to 63";
         case 62: return "a range that falls: write its lower number first";
+        case 63: return "the build is not refused 29: the check names no late task to show";
+        case 64: return "more than 1,024 records: the script that shows the late job is longer than a script may be";
         case 65: return "a text over 1,024 bytes: write each processor once";
         default: return NULL;
     }

@@ -1,4 +1,4 @@
-"""The planner of camera boxes for Python: the ten operations of the proved library libjefkantu.
+"""The planner of camera boxes for Python: the eleven operations of the proved library libjefkantu.
 
 The library is libjefkantu.so in the directory JEFKANTU_LIB_DIR, or else beside this file, or else in the repository's
 target/python, where bindings/python/link writes it. This folder works wherever it is copied, with its causes.txt.
@@ -25,6 +25,7 @@ MOST_LIST_BYTES = 121
 MOST_LIST_TEXT_BYTES = 1024
 MOST_PARTITIONS = 32
 MOST_RECORDS = 1024
+MOST_SCRIPT_BYTES = 6144
 
 _HERE = Path(__file__).resolve().parent
 _ORDER_NUMBERS = 130
@@ -195,6 +196,14 @@ def run(order: bytes, build: bytes, script: bytes, room: int = MOST_RECORDS) -> 
     return list(out[:count])
 
 
+def late(order: bytes, build: bytes, room: int = MOST_SCRIPT_BYTES) -> bytes:
+    """Gives a script that shows the late job of a build that the check refuses 29: the order's 1 to 10, 63, 64; 12 if over
+    room bytes."""
+    out = _output(ctypes.c_uint8, room)
+    count = _count(_library.jefkantu_late(*_lent("order", order), *_lent("build", build), out, len(out)))
+    return bytes(out[:count])
+
+
 def partition_sets(order: bytes, build: bytes, room: int = MOST_PARTITIONS) -> List[int]:
     """Gives the set of each partition of a build: the check, then 12 if over room."""
     out = _output(ctypes.c_uint64, room)
@@ -250,6 +259,18 @@ def write_script(releases: Iterable[Release]) -> bytes:
     """Writes a script; an error names the record and the field that cannot hold its number. The run says whether it is
     legal."""
     return b"".join(_record(f"record {i}", release) for i, release in enumerate(_items("releases", releases)))
+
+
+def read_script(script: bytes) -> List[Release]:
+    """The records of a script; bytes that are no whole records, or have a spare bit set, are an error."""
+    script = _bytes("script", script)
+    if len(script) % _RECORD_BYTES != 0:
+        raise ValueError(f"script: {len(script)} bytes are no whole records")
+    records = [int.from_bytes(script[at : at + _RECORD_BYTES], "big") for at in range(0, len(script), _RECORD_BYTES)]
+    for i, record in enumerate(records):
+        if record % 8 != 0:
+            raise ValueError(f"record {i}: a spare bit is set")
+    return [Release(it >> 28, it >> 23 & 31, it >> 3 & 0xFFFFF) for it in records]
 
 
 def _record(where: str, release: Release) -> bytes:
@@ -357,6 +378,7 @@ def _load() -> ctypes.CDLL:
         "plan": [data, size, out, size],
         "check": [data, size] * 2,
         "run": [*[data, size] * 3, column, size],
+        "late": [*[data, size] * 2, out, size],
         "partition_sets": [*[data, size] * 2, sets, size],
         "write_list": [ctypes.c_uint64, out, size],
         "read_list": [data, size, sets],

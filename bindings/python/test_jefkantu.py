@@ -54,6 +54,7 @@ def calls(asked, words):
             lambda: jefkantu.plan(order, 0),
             lambda: jefkantu.check(order, b""),
             lambda: jefkantu.run(order, b"", b"\0", 0),
+            lambda: jefkantu.late(order, b"", 0),
             lambda: jefkantu.partition_sets(order, b"", 0),
         ]
     if asked == "plan":
@@ -74,6 +75,8 @@ def calls(asked, words):
         ]
     if asked == "run":
         return [lambda: jefkantu.run(*map(data, words[:3]), int(words[3]))]
+    if asked == "late":
+        return [lambda: jefkantu.late(*map(data, words[:2]), int(words[2]))]
     if asked == "sets":
         return [lambda: jefkantu.partition_sets(*map(data, words[:2]), int(words[2]))]
     if asked == "write_list":
@@ -175,6 +178,97 @@ class Text(unittest.TestCase):
     def test_a_refusal_tells_its_line(self):
         with self.assertRaisesRegex(Refused, "^refused 50 at line 1: not m;T;D;C and a line feed: "):
             jefkantu.read_text(4, "1;75;75;75\n1;75;75;7,505\n")
+
+
+# P5 as one partition of one processor: ranks 0, 1 and 2, worst responses 7, 11 and 14.
+P5 = [Task(1, 10, 10, 4), Task(1, 14, 13, 4), Task(1, 14, 13, 4)]
+P5_BUILD = bytes.fromhex("102181 0200 0000000E 00200016 0040001C")
+
+# Task 2 has no lower member, so B is 0 and all begin at tick 0. Its responses are 12 and 14, its job 1 is the first late
+# one: it comes at 14 and starts at 24. So task 2 comes at 0 and 14, and up to 24 task 0 at 0, 10 and 20, task 1 at 0 and
+# 14.
+P5_SCRIPT = [(0, 0, 4), (0, 1, 4), (0, 2, 4), (10, 0, 4), (14, 1, 4), (14, 2, 4), (20, 0, 4)]
+
+
+def ordered(tasks):
+    return jefkantu.write_order(Order(1, tasks))
+
+
+def together(*ranks):
+    """A build of one partition of one processor; the responses stay 0."""
+    header = 1 << 20 | 1 << 13 | len(ranks) << 7 | 1
+    return header.to_bytes(3, "big") + b"\2\0" + b"".join((rank << 21).to_bytes(4, "big") for rank in ranks)
+
+
+class Late(unittest.TestCase):
+    """The late script: a job of the task that the check names, which finishes after its deadline."""
+
+    def refused(self, number, place, call):
+        with self.assertRaises(Refused) as caught:
+            call()
+        self.assertEqual((caught.exception.number, caught.exception.place), (number, place))
+
+    def shows(self, order, build, task, records):
+        self.refused(29, task, lambda: jefkantu.check(order, build))
+        script = jefkantu.late(order, build)
+        self.assertEqual(jefkantu.read_script(script), records)
+        self.assertEqual(jefkantu.write_script(records), script)
+        self.assertEqual(jefkantu.late(bytearray(order), memoryview(build), len(script)), script)
+        self.refused(12, None, lambda: jefkantu.late(order, build, len(script) - 1))
+
+    def test_p5_shows_the_second_job(self):
+        self.shows(ordered(P5), P5_BUILD, 2, P5_SCRIPT)
+
+    def test_a_recorded_response_does_not_matter(self):
+        self.shows(ordered(P5), P5_BUILD[:-1] + b"\0", 2, P5_SCRIPT)
+
+    def test_p6_runs_the_same_script_in_time(self):
+        """P6 allows 14 ticks, and that job takes them all: it comes at 14 and finishes at 28."""
+        script = jefkantu.late(ordered(P5), P5_BUILD)
+        order = ordered([*P5[:2], P5[2]._replace(deadline=14)])
+        self.assertEqual(jefkantu.run(order, P5_BUILD, script), [4, 8, 12, 16, 20, 28, 24])
+        self.refused(63, None, lambda: jefkantu.late(order, P5_BUILD))
+
+    def test_the_sample_build_runs_it_too(self):
+        """In the sample's build task 2 has a partition of its own."""
+        script = jefkantu.late(ordered(P5), P5_BUILD)
+        self.assertEqual(jefkantu.run(ORDER, BUILD, script), [4, 8, 4, 14, 18, 18, 24])
+        told = "^refused 63: the build is not refused 29: the check names no late task to show$"
+        with self.assertRaisesRegex(Refused, told):
+            jefkantu.late(ORDER, BUILD)
+
+    def test_the_blocker_comes_first(self):
+        """The lower member with the largest C, lowest number among equals: task 1, though task 2 has the higher
+        priority."""
+        tasks = [Task(1, 10, 5, 3), Task(1, 100, 100, 4), Task(1, 100, 90, 4)]
+        self.shows(ordered(tasks), together(0, 2, 1), 0, [(0, 1, 4), (1, 0, 3)])
+
+    def test_no_blocker_of_one_tick(self):
+        """Lower members with C = 1 make B 0: none of them comes, and all begin at tick 0."""
+        build = together(0, 1, 2, 3)
+        self.shows(ordered([*P5, Task(1, 100, 100, 1)]), build[:5] + P5_BUILD[5:13] + build[13:], 2, P5_SCRIPT)
+
+    def test_the_longest_script(self):
+        """With a blocker of C ticks task 0 starts 3C - 1 ticks after tick 1, and up to then task 1 comes C times: C + 2
+        records."""
+        tasks = [Task(1, 1000, 1000, 1), Task(1, 3, 3, 2), Task(1, 1_000_000, 1_000_000, 1022)]
+        records = [(0, 2, 1022), (1, 0, 1), *[(1 + 3 * i, 1, 2) for i in range(1022)]]
+        self.assertEqual(6 * len(records), jefkantu.MOST_SCRIPT_BYTES)
+        self.shows(ordered(tasks), together(1, 0, 2), 0, records)
+        longer = ordered([*tasks[:2], tasks[2]._replace(run=1023)])
+        self.refused(64, None, lambda: jefkantu.late(longer, together(1, 0, 2)))
+
+    def test_a_script_is_read_as_it_was_written(self):
+        for records in [[], [(0xFFFFF, 31, 0xFFFFF)], P5_SCRIPT]:
+            self.assertEqual(jefkantu.read_script(bytearray(jefkantu.write_script(records))), records)
+        for size in [1, 5, 7]:
+            with self.assertRaisesRegex(ValueError, f"^script: {size} bytes are no whole records$"):
+                jefkantu.read_script(bytes(size))
+        for spare in [1, 2, 4]:
+            with self.assertRaisesRegex(ValueError, "^record 1: a spare bit is set$"):
+                jefkantu.read_script(bytes(11) + bytes([spare]))
+        with self.assertRaisesRegex(TypeError, "^script: "):
+            jefkantu.read_script([0] * 6)
 
 
 class Lists(unittest.TestCase):
@@ -353,6 +447,7 @@ class Numbers(unittest.TestCase):
 
     def test_room(self):
         for value, error in UNFIT:
+            self.refused(error, "room", lambda: jefkantu.late(ORDER, BUILD, value))
             self.refused(error, "room", lambda: jefkantu.partition_sets(ORDER, BUILD, value))
             self.refused(error, "room", lambda: jefkantu.write_list(0, value))
             self.refused(error, "room", lambda: jefkantu.read_text(4, TEXT, value))
@@ -463,6 +558,16 @@ class Repository(unittest.TestCase):
         for given, number, byte in refused:
             with self.subTest(given=given), self.assertRaisesRegex(Refused, f"^refused {number} at byte {byte}: "):
                 jefkantu.read_list(given)
+
+    def test_the_formats_page_shows_the_late_job_as_the_library_does(self):
+        record = r"^record \d: tick +(\d+), task (\d), length (\d); finishes at +(\d+), deadline at (\d+)(?:: late by (\d+))?$"
+        rows = [[int(it or 0) for it in row] for row in re.findall(record, text("docs/FORMATS.md"), re.MULTILINE)]
+        script = jefkantu.late(ordered(P5), P5_BUILD)
+        self.assertEqual(jefkantu.read_script(script), [tuple(row[:3]) for row in rows])
+        in_time = ordered([*P5[:2], P5[2]._replace(deadline=14)])
+        self.assertEqual(jefkantu.run(in_time, P5_BUILD, script), [row[3] for row in rows])
+        self.assertEqual([tick + P5[task].deadline for tick, task, *_ in rows], [row[4] for row in rows])
+        self.assertEqual([max(0, row[3] - row[4]) for row in rows], [row[5] for row in rows])
 
     def test_a_copied_folder_works(self):
         here = Path(__file__).resolve().parent

@@ -6,10 +6,18 @@
 #include "jefkantu.h"
 #include "jefkantu_words.h"
 
-enum { COLUMNS = 4, ROOM = 12, NONE = JEFKANTU_NO_PLACE };
+enum { COLUMNS = 4, ROOM = 12, RECORD_BYTES = 6, NONE = JEFKANTU_NO_PLACE };
 
 // The text of the task (1, 10, 10, 10).
 static const uint8_t LINE[] = {'1', ';', '0', '.', '1', ';', '0', '.', '1', ';', '0', '.', '1', '\n'};
+
+// Two tasks, (1, 10, 5, 3) and (1, 100, 100, 4), on M = 1, in one partition: the first is late.
+static const uint8_t LATE_ORDER[] = {
+    0x10, 0x21, 0x00,
+    0x02, 0x00, 0x01, 0x40, 0x00, 0x0A, 0x00, 0x00, 0x60,
+    0x02, 0x00, 0x0C, 0x80, 0x00, 0xC8, 0x00, 0x00, 0x80,
+};
+static const uint8_t LATE_BUILD[] = {0x10, 0x21, 0x01, 0x02, 0x00, 0x00, 0x00, 0x00, 0x0C, 0x00, 0x20, 0x00, 0x0E};
 
 // The order with the single task (1, 10, 10, 10) on M = 4, with one number changed: 0 is M, then m, T, D and C.
 static uint64_t written_with(size_t changed, uint32_t number, uint8_t *out) {
@@ -85,6 +93,7 @@ static void nothing_lent(void) {
     answers("no order to plan", jefkantu_plan(NULL, 0, NULL, 0), 1);
     answers("no order to check", jefkantu_check(NULL, 0, NULL, 0), 1);
     answers("no order to run", jefkantu_run(NULL, 0, NULL, 0, NULL, 0, NULL, 0), 1);
+    answers("no order to show late", jefkantu_late(NULL, 0, NULL, 0, NULL, 0), 1);
     answers("no order to give the sets of", jefkantu_partition_sets(NULL, 0, NULL, 0, NULL, 0), 1);
     answers("no room for a list", jefkantu_write_list(1, NULL, 0), 12);
     answers("an empty list needs none", jefkantu_write_list(0, NULL, 0), 0);
@@ -98,6 +107,8 @@ static void nothing_lent(void) {
     answers("no room for a text's order", jefkantu_read_text(4, LINE, sizeof LINE, NULL, 0), 12);
     answers("no room for its build", jefkantu_plan(order, ROOM, NULL, 0), 12);
     answers("no build", jefkantu_check(order, ROOM, NULL, 0), 20);
+    answers("no build to show late", jefkantu_late(order, ROOM, NULL, 0, NULL, 0), 63);
+    answers("no room for a late script", jefkantu_late(LATE_ORDER, sizeof LATE_ORDER, LATE_BUILD, sizeof LATE_BUILD, NULL, 0), 12);
     size_t size = jefkantu_count(jefkantu_plan(order, ROOM, build, sizeof build));
     answers("no script", jefkantu_run(order, ROOM, build, size, NULL, 0, NULL, 0), 0);
     answers("no room for its sets", jefkantu_partition_sets(order, ROOM, build, size, NULL, 0), 12);
@@ -116,6 +127,11 @@ static void odd_addresses(void) {
     word = jefkantu_write_list(set, build + 1, 1);
     expect("its list", jefkantu_number(word) == 0 && jefkantu_count(word) == 1 && build[1] == '0');
     answers("that list", jefkantu_read_list(build + 1, 1, &set), 0);
+    uint8_t late_order[1 + sizeof LATE_ORDER], late_build[1 + sizeof LATE_BUILD], script[1 + 2 * RECORD_BYTES];
+    memcpy(late_order + 1, LATE_ORDER, sizeof LATE_ORDER);
+    memcpy(late_build + 1, LATE_BUILD, sizeof LATE_BUILD);
+    word = jefkantu_late(late_order + 1, sizeof LATE_ORDER, late_build + 1, sizeof LATE_BUILD, script + 1, 2 * RECORD_BYTES);
+    expect("a late script", jefkantu_number(word) == 0 && jefkantu_count(word) == 2 * RECORD_BYTES);
 }
 
 static int same(const char *text, const char *other) { return text != NULL && strcmp(text, other) == 0; }
@@ -126,6 +142,8 @@ static void words(void) {
     expect("50", same(jefkantu_place_kind(50), "line") && same(jefkantu_place_kind(51), "line"));
     expect("52", same(jefkantu_words(52), "more than 32 lines: type one for each task, at most 32") && jefkantu_place_kind(52) == NULL);
     expect("60", same(jefkantu_place_kind(60), "byte") && same(jefkantu_place_kind(61), "byte") && same(jefkantu_place_kind(62), "byte"));
+    expect("63", same(jefkantu_words(63), "the build is not refused 29: the check names no late task to show") && jefkantu_place_kind(63) == NULL);
+    expect("64", jefkantu_words(64) != NULL && jefkantu_place_kind(64) == NULL);
     expect("65", same(jefkantu_words(65), "a text over 1,024 bytes: write each processor once") && jefkantu_place_kind(65) == NULL);
     expect("46", same(jefkantu_words(46), "too few places for finish ticks") && jefkantu_place_kind(46) == NULL);
     expect("no such cause", jefkantu_words(0) == NULL && jefkantu_words(14) == NULL && jefkantu_words(65535) == NULL);

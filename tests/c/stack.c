@@ -40,6 +40,8 @@ static void call_run(void) {
     word = jefkantu_run(order, order_len, build, build_len, script, script_len, finish, places);
 }
 
+static void call_late(void) { word = jefkantu_late(order, order_len, build, build_len, script, room); }
+
 static void call_partition_sets(void) {
     word = jefkantu_partition_sets(order, order_len, build, build_len, sets, places);
 }
@@ -72,7 +74,7 @@ static size_t depth(void (*call)(void)) {
 }
 
 static size_t most_read, most_write, most_read_text, most_write_text, most_plan, most_check, most_run;
-static size_t most_partition_sets, most_write_list, most_read_list;
+static size_t most_late, most_partition_sets, most_write_list, most_read_list;
 static int failed;
 
 // Calls, and keeps the most; the answer must have the number. The first call is not measured: the linker may take part.
@@ -118,6 +120,7 @@ static void plan_tasks(uint32_t width, uint32_t period, uint32_t run) {
     calls("an order planned", call_plan, &most_plan, 0);
     build_len = jefkantu_count(word);
     calls("a build checked", call_check, &most_check, 0);
+    calls("no late job in it", call_late, &most_late, 63);
     places = JEFKANTU_MOST_PARTITIONS;
     calls("a build's sets", call_partition_sets, &most_partition_sets, 0);
     places = 0;
@@ -159,7 +162,47 @@ static void refuse_last(void) {
     calls("a text of that order", call_write_text, &most_write_text, 6);
     calls("a plan of that order", call_plan, &most_plan, 6);
     calls("a check of that order", call_check, &most_check, 6);
+    calls("the late job of that order's build", call_late, &most_late, 6);
     calls("the sets of that order's build", call_partition_sets, &most_partition_sets, 6);
+}
+
+// Bytes of a build, behind those that are there.
+static void put_number(size_t size, uint32_t number) {
+    for (size_t i = 0; i < size; i++) build[build_len++] = (uint8_t)(number >> (8 * (size - 1 - i)));
+}
+
+// 32 tasks in one partition: task 0 is late, tasks 1 to 30 are higher, 960 of every 1,000 ticks together, and task 31 blocks
+// it by C ticks less 1. It starts in round k, the first with C - 1 < 40k: 30k + 2 records.
+static void show_late(uint32_t blocker) {
+    processors = 64;
+    tasks = TASKS;
+    build_len = 0;
+    put_number(3, 1u << 20 | 64u << 13 | TASKS << 7 | 1u);
+    put_number(2, 1u << 9);
+    for (uint32_t i = 0; i < TASKS; i++) {
+        widths[i] = 1;
+        periods[i] = deadlines[i] = i == 0 ? 2000 : i < TASKS - 1 ? 1000 : 1000000;
+        runs[i] = i == 0 ? 1 : i < TASKS - 1 ? 32 : blocker;
+        put_number(4, (i == 0 ? TASKS - 2 : i < TASKS - 1 ? i - 1 : i) << 21);
+    }
+    room = sizeof order;
+    calls("an order written", call_write, &most_write, 0);
+    order_len = jefkantu_count(word);
+    calls("a late build", call_check, &most_check, 29);
+}
+
+// The longest late script, refused where it ends, and one that is longer.
+static void late_scripts(void) {
+    show_late(1321);
+    room = sizeof script;
+    calls("a late script of 1,022 records", call_late, &most_late, 0);
+    room = 1022 * RECORD_BYTES - 1;
+    calls("no room for it", call_late, &most_late, 12);
+    show_late(1361);
+    room = sizeof script;
+    calls("a late script of 1,052 records", call_late, &most_late, 64);
+    show_late(30001);
+    calls("a late script of many records", call_late, &most_late, 64);
 }
 
 // The longest lists, written and read, and refused at their ends.
@@ -222,6 +265,7 @@ int main(void) {
     run_longest(2000, 1, 1000);
     refuse_last();
     refuse_plan();
+    late_scripts();
     list_sets();
     tell("jefkantu_read_order", most_read);
     tell("jefkantu_write_order", most_write);
@@ -230,6 +274,7 @@ int main(void) {
     tell("jefkantu_plan", most_plan);
     tell("jefkantu_check", most_check);
     tell("jefkantu_run", most_run);
+    tell("jefkantu_late", most_late);
     tell("jefkantu_partition_sets", most_partition_sets);
     tell("jefkantu_write_list", most_write_list);
     tell("jefkantu_read_list", most_read_list);

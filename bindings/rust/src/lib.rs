@@ -1,4 +1,4 @@
-//! The planner of camera boxes for Rust: the ten operations of the proved library libjefkantu.a.
+//! The planner of camera boxes for Rust: the eleven operations of the proved library libjefkantu.a.
 //!
 //! ```
 //! use jefkantu::{plan, run, write_order, write_script, Build, Order, Release};
@@ -23,6 +23,21 @@
 //!
 //! let refused = read_text(4, "2;7,5;7.5;0.04\n2;7,5 ;7.5;0.04\n").unwrap_err();
 //! assert!(refused.to_string().starts_with("refused 50 at line 1: not m;T;D;C"));
+//! # Ok::<(), Box<dyn std::error::Error>>(())
+//! ```
+//!
+//! A build that the check refuses 29 has a late task: the late script shows a job of it that finishes after its deadline.
+//!
+//! ```
+//! use jefkantu::{check, late, read_script, write_order, Order, Release};
+//!
+//! let order = write_order(&Order::of(1, [[1, 10, 5, 3], [1, 100, 100, 4]])?)?;
+//! let build = [0x10, 0x21, 0x01, 0x02, 0x00, 0x00, 0x00, 0x00, 0x0C, 0x00, 0x20, 0x00, 0x0E];
+//! assert_eq!(check(&order, &build).unwrap_err().to_string(), "refused 29 at task 0: worst response over D");
+//!
+//! // Task 1 comes first and runs to tick 4, task 0 comes at tick 1 and runs to tick 7: its deadline is tick 6.
+//! let script = late(&order, &build)?;
+//! assert_eq!(read_script(&script), Some(vec![Release::of(0, 1, 4)?, Release::of(1, 0, 3)?]));
 //! # Ok::<(), Box<dyn std::error::Error>>(())
 //! ```
 //!
@@ -59,7 +74,7 @@ pub use list::{read_list, write_list, write_list_into, Set};
 pub use number::{column, NotHeld, Whole};
 pub use order::{Columns, Order, Task};
 pub use refusal::{Cause, Refusal};
-pub use script::{write_script, Release};
+pub use script::{read_script, write_script, Release};
 pub use text::{read_text, read_text_into, write_text, write_text_into, NotRead};
 
 use refusal::answer;
@@ -131,6 +146,16 @@ pub fn run_into(
     out: &mut [u32],
 ) -> Result<usize, Refusal> {
     answer(surface::run(order, build, script, out))
+}
+
+/// Gives a script that shows the late job of a build that the check refuses 29: the order's 1 to 10, 63, then 64.
+pub fn late(order: &[u8], build: &[u8]) -> Result<Vec<u8>, Refusal> {
+    filled(Release::MOST_SCRIPT_BYTES, |out| late_into(order, build, out))
+}
+
+/// That script into the front of the caller's buffer, and its length: 1 to 10, 63, 64, then 12.
+pub fn late_into(order: &[u8], build: &[u8], out: &mut [u8]) -> Result<usize, Refusal> {
+    answer(surface::late(order, build, out))
 }
 
 /// Gives the set of each partition of a build: the check.

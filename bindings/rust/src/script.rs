@@ -20,6 +20,9 @@ impl Release {
     /// The length of a record, in bytes.
     pub const BYTES: usize = 6;
 
+    /// The length of the longest script, in bytes.
+    pub const MOST_SCRIPT_BYTES: usize = Release::MOST_RECORDS * Release::BYTES;
+
     /// What a field of 20 bits holds, and one of 5.
     const MOST_TICK: u32 = (1 << 20) - 1;
     const MOST_TASK: u32 = (1 << 5) - 1;
@@ -44,6 +47,17 @@ impl Release {
         let [_, _, bytes @ ..] = record.to_be_bytes();
         Ok(bytes)
     }
+
+    /// The fields of a record; none where a spare bit is set.
+    fn of_bytes(bytes: &[u8]) -> Option<Release> {
+        let record = bytes.iter().fold(0u64, |high, &byte| high << 8 | u64::from(byte));
+        let field = |at: u32, most: u32| (record >> at) as u32 & most;
+        (field(0, 7) == 0).then_some(Release {
+            tick: field(28, Release::MOST_TICK),
+            task: field(23, Release::MOST_TASK),
+            duration: field(3, Release::MOST_TICK),
+        })
+    }
 }
 
 /// Writes a script, or says which record has a number that its field does not hold. The run says whether it is legal.
@@ -51,4 +65,11 @@ pub fn write_script(releases: &[Release]) -> Result<Vec<u8>, NotHeld> {
     let bytes = |(row, it): (usize, &Release)| it.bytes().map_err(|it| it.in_row(row));
     let records: Vec<_> = releases.iter().enumerate().map(bytes).collect::<Result<_, _>>()?;
     Ok(records.concat())
+}
+
+/// The records of a script; none where its bytes are no whole records, or a spare bit is set.
+pub fn read_script(script: &[u8]) -> Option<Vec<Release>> {
+    let records = script.chunks_exact(Release::BYTES);
+    let whole = records.remainder().is_empty();
+    records.map(Release::of_bytes).collect::<Option<_>>().filter(|_| whole)
 }

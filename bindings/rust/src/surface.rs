@@ -49,6 +49,14 @@ extern "C" {
         out: *mut u32,
         out_len: usize,
     ) -> u64;
+    fn jefkantu_late(
+        order: *const u8,
+        order_len: usize,
+        build: *const u8,
+        build_len: usize,
+        out: *mut u8,
+        out_len: usize,
+    ) -> u64;
     fn jefkantu_partition_sets(
         order: *const u8,
         order_len: usize,
@@ -118,6 +126,20 @@ pub fn run(order: &[u8], build: &[u8], script: &[u8], out: &mut [u32]) -> u64 {
             build.len(),
             script.as_ptr(),
             script.len(),
+            out.as_mut_ptr(),
+            out.len(),
+        )
+    }
+}
+
+pub fn late(order: &[u8], build: &[u8], out: &mut [u8]) -> u64 {
+    // SAFETY: each pointer is a live reference's, with its own length; the `&mut` overlaps nothing.
+    unsafe {
+        jefkantu_late(
+            order.as_ptr(),
+            order.len(),
+            build.as_ptr(),
+            build.len(),
             out.as_mut_ptr(),
             out.len(),
         )

@@ -1,7 +1,7 @@
 //! Each line of bindings/refusals.txt: its number, its place, and the caller's buffer as it was.
 
-use jefkantu::{check, partition_sets_into, plan_into, read_list, read_order, read_text_into};
-use jefkantu::{run_into, write_columns_into, write_list_into, write_text_into};
+use jefkantu::{check, late_into, partition_sets_into, plan_into, read_list, read_order};
+use jefkantu::{read_text_into, run_into, write_columns_into, write_list_into, write_text_into};
 use jefkantu::{Cause, Columns, NotRead, Refusal, Set};
 use std::collections::BTreeSet;
 
@@ -74,6 +74,10 @@ fn text_written(order: &[u8], room: &str) -> Refusal {
     kept(0xA5, room, |out| write_text_into(order, out))
 }
 
+fn shown(order: &[u8], build: &[u8], room: &str) -> Refusal {
+    kept(0xA5, room, |out| late_into(order, build, out))
+}
+
 fn sets_given(order: &[u8], build: &[u8], room: &str) -> Refusal {
     kept(Set(0xA5A5_A5A5_A5A5_A5A5), room, |out| partition_sets_into(order, build, out))
 }
@@ -91,7 +95,8 @@ fn refusals(asked: &[&str]) -> Vec<Refusal> {
             let read = read_order(&order).expect_err("a refusal");
             let (text, planned) = (text_written(&order, "0"), planned(&order, "0"));
             let (checked, ran) = (checked(&order, &[]), ran(&order, &[], &[0], "0"));
-            vec![read, text, planned, checked, ran, sets_given(&order, &[], "0")]
+            let (sets, shown) = (sets_given(&order, &[], "0"), shown(&order, &[], "0"));
+            vec![read, text, planned, checked, ran, sets, shown]
         }
         ["read_text", processors, text, room] => vec![text_read(processors, &bytes(text), room)],
         ["write_text", order, room] => vec![text_written(&bytes(order), room)],
@@ -105,6 +110,7 @@ fn refusals(asked: &[&str]) -> Vec<Refusal> {
         ["run", order, build, script, room] => {
             vec![ran(&bytes(order), &bytes(build), &bytes(script), room)]
         }
+        ["late", order, build, room] => vec![shown(&bytes(order), &bytes(build), room)],
         ["sets", order, build, room] => vec![sets_given(&bytes(order), &bytes(build), room)],
         ["write_list", set, room] => vec![list_written(set, room)],
         ["read_list", text] => vec![read_list(bytes(text)).expect_err("a refusal")],

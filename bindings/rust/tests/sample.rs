@@ -126,6 +126,7 @@ fn limits_are_those_of_the_header() {
         ("LIST_TEXT_BYTES", Set::MOST_LIST_TEXT_BYTES),
         ("PARTITIONS", Build::MOST_PARTITIONS),
         ("RECORDS", Release::MOST_RECORDS),
+        ("SCRIPT_BYTES", Release::MOST_SCRIPT_BYTES),
     ] {
         assert!(header.contains(&format!("#define JEFKANTU_MOST_{name} {value}\n")));
     }
