@@ -77,6 +77,8 @@ pub enum Cause {
     ListShape = 60,
     ListNumber = 61,
     ListRange = 62,
+    NotLate = 63,
+    ManyRecords = 64,
     ListLength = 65,
 }
 

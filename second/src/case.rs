@@ -2,8 +2,10 @@
 
 use crate::answer::Answer;
 use crate::generate::random::Random;
+use crate::late::Late;
 use crate::order::Order;
 use crate::program::Program;
+use crate::script::{self, Record};
 
 /// The operations.
 #[derive(Clone, Copy, Debug, PartialEq, Eq, PartialOrd, Ord)]
@@ -18,6 +20,7 @@ pub enum Operation {
     WriteList,
     ReadList,
     PartitionSets,
+    Late,
 }
 
 impl Operation {
@@ -25,13 +28,14 @@ impl Operation {
     pub const MOST: u16 = 65;
 
     /// Operations that are drawn and counted together, so that each group keeps its cases.
-    const GROUPS: [&[Operation]; 6] = [
+    const GROUPS: [&[Operation]; 7] = [
         &[Operation::Read, Operation::Write, Operation::Plan, Operation::Check, Operation::Run],
         &[Operation::ReadText],
         &[Operation::WriteText],
         &[Operation::WriteList],
         &[Operation::ReadList],
         &[Operation::PartitionSets],
+        &[Operation::Late],
     ];
 
     pub fn all() -> Vec<Operation> {
@@ -58,6 +62,7 @@ impl Operation {
             Operation::WriteList => "write_list",
             Operation::ReadList => "read_list",
             Operation::PartitionSets => "partition_sets",
+            Operation::Late => "late",
         }
     }
 
@@ -74,6 +79,7 @@ impl Operation {
             Operation::WriteList => matches!(number, 0 | 12),
             Operation::ReadList => matches!(number, 0 | 60..=62 | 65),
             Operation::PartitionSets => matches!(number, 0..=10 | 12 | 20..=30),
+            Operation::Late => matches!(number, 0..=10 | 12 | 63 | 64),
         }
     }
 }
@@ -91,6 +97,7 @@ pub enum Case {
     WriteList { set: u64, room: usize },
     ReadList { text: Vec<u8> },
     PartitionSets { order: Vec<u8>, build: Vec<u8>, room: usize },
+    Late { order: Vec<u8>, build: Vec<u8>, room: usize },
 }
 
 /// An answer, and the memory around and in the output afterwards.
@@ -146,6 +153,7 @@ impl Case {
             Case::WriteList { .. } => Operation::WriteList,
             Case::ReadList { .. } => Operation::ReadList,
             Case::PartitionSets { .. } => Operation::PartitionSets,
+            Case::Late { .. } => Operation::Late,
         }
     }
 
@@ -197,6 +205,10 @@ impl Case {
                 sets = memory(*room, fill, |word| word);
                 program.partition_sets(order, build, inside(&mut sets))
             }
+            Case::Late { order, build, room } => {
+                bytes = memory(*room, fill, |word| word as u8);
+                program.late(order, build, inside(&mut bytes))
+            }
         };
         Outcome { answer, bytes, words, sets }
     }
@@ -224,6 +236,17 @@ impl Case {
         }
     }
 
+    /// Whether a late script that was written is legal, and misses in the step machine.
+    pub fn misses(&self, outcome: &Outcome) -> bool {
+        let Case::Late { order, build, .. } = self else { return true };
+        let written = &outcome.output_bytes()[..outcome.answer.count as usize];
+        outcome.answer.number != 0
+            || Late::new(order, build).is_ok_and(|late| {
+                let script = script::read(written, &late.order, Record::MOST);
+                script.is_ok_and(|script| late.is_shown_by(&script))
+            })
+    }
+
     /// The case and its outcome as a line of text, as the README says.
     pub fn line(&self, outcome: &Outcome) -> String {
         let given = match self {
@@ -244,7 +267,7 @@ impl Case {
             }
             Case::WriteList { set, room } => format!("{} {room}", hex_sets(&[*set])),
             Case::ReadList { text } => hex(text),
-            Case::PartitionSets { order, build, room } => {
+            Case::PartitionSets { order, build, room } | Case::Late { order, build, room } => {
                 format!("{} {} {room}", hex(order), hex(build))
             }
         };

@@ -12,6 +12,7 @@ pub mod check;
 pub mod counted;
 pub mod fit;
 pub mod generate;
+pub mod late;
 pub mod library;
 pub mod list;
 pub mod machine;
@@ -105,6 +106,12 @@ pub fn partition_sets(order: &[u8], build: &[u8], out: &mut [u64]) -> Answer {
     let sets = check::check(order, build)
         .map(|(_, build)| build.partitions.iter().map(Partition::set).collect::<Vec<u64>>());
     Answer::from(sets.and_then(|sets| put(&sets, out, Cause::Output)))
+}
+
+/// A script that shows the late job of a build that is refused 29.
+pub fn late(order: &[u8], build: &[u8], out: &mut [u8]) -> Answer {
+    let script = late::script(order, build);
+    Answer::from(script.and_then(|script| put(&script::bytes(&script), out, Cause::Output)))
 }
 
 /// Replaces the front of the output; refused where the output is too short for it.

@@ -47,6 +47,10 @@ surface! {
         order: *const u8, order_len: usize, build: *const u8, build_len: usize,
         out: *mut u64, out_len: usize,
     );
+    "late" fn jefkantu_late(
+        order: *const u8, order_len: usize, build: *const u8, build_len: usize,
+        out: *mut u8, out_len: usize,
+    );
 }
 
 #[cfg_attr(
@@ -56,7 +60,8 @@ surface! {
         feature = "check",
         feature = "run",
         feature = "text",
-        feature = "lists"
+        feature = "lists",
+        feature = "late"
     ),
     link(name = "jefkantu", kind = "static")
 )]
@@ -120,6 +125,14 @@ impl Program for Library {
         let (to, room) = (out.as_mut_ptr(), out.len());
         Answer::unpack(unsafe {
             jefkantu_partition_sets(order.as_ptr(), order.len(), from, length, to, room)
+        })
+    }
+
+    fn late(&self, order: &[u8], build: &[u8], out: &mut [u8]) -> Answer {
+        let (from, length) = (build.as_ptr(), build.len());
+        let (to, room) = (out.as_mut_ptr(), out.len());
+        Answer::unpack(unsafe {
+            jefkantu_late(order.as_ptr(), order.len(), from, length, to, room)
         })
     }
 }

@@ -32,7 +32,7 @@ impl Options {
 
     fn parse(mut arguments: impl Iterator<Item = String>) -> Option<Options> {
         let form = Form::Text;
-        let mut options = Options { cases: 400_000, seed: 1, each: 4, least: 0, only: None, form };
+        let mut options = Options { cases: 440_000, seed: 1, each: 4, least: 0, only: None, form };
         while let Some(name) = arguments.next() {
             let value = arguments.next()?;
             match name.as_str() {

@@ -15,6 +15,7 @@ pub trait Program {
     fn write_list(&self, set: u64, out: &mut [u8]) -> Answer;
     fn read_list(&self, text: &[u8], set: &mut u64) -> Answer;
     fn partition_sets(&self, order: &[u8], build: &[u8], out: &mut [u64]) -> Answer;
+    fn late(&self, order: &[u8], build: &[u8], out: &mut [u8]) -> Answer;
 }
 
 /// This one.
@@ -59,5 +60,9 @@ impl Program for Second {
 
     fn partition_sets(&self, order: &[u8], build: &[u8], out: &mut [u64]) -> Answer {
         crate::partition_sets(order, build, out)
+    }
+
+    fn late(&self, order: &[u8], build: &[u8], out: &mut [u8]) -> Answer {
+        crate::late(order, build, out)
     }
 }

@@ -26,7 +26,7 @@ pub struct Member<'a> {
     task: &'a Task,
     higher: &'a [Task],
     and_higher: &'a [Task],
-    blocking: u32,
+    pub blocking: u32,
 }
 
 impl<'a> Member<'a> {
@@ -67,6 +67,16 @@ impl<'a> Member<'a> {
             return Err(Cause::Late);
         }
         Ok(worst)
+    }
+
+    /// The first job that is late, and its start, of a member that is late in the test.
+    pub fn first_late(&self) -> Option<(u32, u32)> {
+        let &Task { t, d, c, .. } = self.task;
+        let mut starts = (0..).scan(0, |start, q| {
+            *start = self.start(q, *start)?;
+            Some((q, *start))
+        });
+        starts.find(|&(q, start)| start + c - q * t > d)
     }
 }
 

@@ -80,7 +80,9 @@ impl Kind {
             (Kind::Short, _, _) => each,
             (Kind::Many, _, 0) => 4 * each,
             (Kind::Long, Operation::Run, 0) => each,
-            (Kind::Long, Operation::Run, 40..) => each.div_ceil(4),
+            (Kind::Long, Operation::Run, 40..) | (Kind::Long, Operation::Late, 0 | 64) => {
+                each.div_ceil(4)
+            }
             _ => 0,
         }
     }
@@ -126,10 +128,11 @@ impl Choice {
     }
 }
 
-/// The whole records of a case's script.
+/// The whole records of a case's script, or those that a script to be written has room for.
 fn records(case: &Case) -> usize {
     match case {
         Case::Run { script, .. } => script.len() / Record::LAYOUT.bytes(),
+        Case::Late { room, .. } => room / Record::LAYOUT.bytes(),
         _ => 0,
     }
 }
@@ -146,7 +149,8 @@ fn parts(case: &Case) -> usize {
         | Case::Check { order, .. }
         | Case::Run { order, .. }
         | Case::WriteText { order, .. }
-        | Case::PartitionSets { order, .. } => order.len() / Order::TASK.bytes(),
+        | Case::PartitionSets { order, .. }
+        | Case::Late { order, .. } => order.len() / Order::TASK.bytes(),
     }
 }
 
@@ -185,7 +189,7 @@ fn record(case: &Case) -> Vec<u8> {
             put_length(&mut bytes, *room);
         }
         Case::ReadList { text } => put_bytes(&mut bytes, text),
-        Case::PartitionSets { order, build, room } => {
+        Case::PartitionSets { order, build, room } | Case::Late { order, build, room } => {
             [order, build].iter().for_each(|part| put_bytes(&mut bytes, part));
             put_length(&mut bytes, *room);
         }

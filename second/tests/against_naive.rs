@@ -70,8 +70,14 @@ fn partition_sets() {
 }
 
 #[test]
+fn late() {
+    agree(Operation::Late, 6_000, Scale::SMALL);
+}
+
+#[test]
 fn long_periods() {
     agree(Operation::Plan, 150, LONG);
     agree(Operation::Check, 150, LONG);
     agree(Operation::Run, 40, LONG);
+    agree(Operation::Late, 40, LONG);
 }

@@ -3,7 +3,8 @@
 use second::answer::Answer;
 use second::counted;
 use second::generate::random::Random;
-use second::generate::{builds, orders, Scale};
+use second::generate::{builds, late, orders, Scale};
+use second::late::Late;
 use second::{check, plan};
 
 #[test]
@@ -37,4 +38,19 @@ fn checks_alike() {
         }
     }
     assert!(looked_at > 5_000);
+}
+
+#[test]
+fn late_jobs_alike() {
+    let mut looked_at = 0;
+    for index in 0..10_000 {
+        let (order, build) = late::order_and_build(&mut Random::nth(33, index), &Scale::FULL);
+        let Ok(shown) = Late::new(&order.bytes(), &build.bytes()) else { continue };
+        looked_at += 1;
+        let (job, _) = counted::late(&order, &build, shown.task);
+        let begin = shown.script.iter().find(|record| record.task == shown.task).map(|r| r.tick);
+        let end = begin.map(|begin| begin + job.start + order.tasks[shown.task].c);
+        assert_eq!((job.number as usize + 1, end), (shown.jobs(), Some(shown.finish)), "{order:?}");
+    }
+    assert!(looked_at > 5_000, "{looked_at}");
 }

@@ -1,7 +1,7 @@
 //! The slow orders stay within the limits of the library's terms.
 
-use second::counted::{self, MOST_OF_CHECK, MOST_OF_PLAN};
-use second::generate::{builds, slow};
+use second::counted::{self, MOST_OF_CHECK, MOST_OF_LATE, MOST_OF_PLAN};
+use second::generate::{builds, late, slow};
 use second::order::Order;
 
 /// No known order is over the limit; tells all that are.
@@ -29,4 +29,15 @@ fn checks_of_the_plan() {
 #[test]
 fn checks_of_all_in_one() {
     within(MOST_OF_CHECK, |order| counted::most_terms(order, &builds::ranked_in_one(order)));
+}
+
+/// Showing the late job takes no more than twice the terms of the check, which is in it.
+#[test]
+fn late_ones() {
+    let slow = late::slow_ones();
+    assert!(slow.len() > 20, "{}", slow.len());
+    for (place, order, build) in slow {
+        let (check, more) = late::terms(&order, &build).expect("a late task");
+        assert!(more <= check && more <= MOST_OF_LATE, "slow {}: {more}, {check}", place + 1);
+    }
 }

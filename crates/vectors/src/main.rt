@@ -301,6 +301,22 @@ fn partition_sets_case() {
     partition_sets_into(&order[..size], &build[..bytes], &mut out[..places]);
 }
 
+fn late_into(order: &[u8], build: &[u8], out: &mut [u8]) {
+    let word = jefkantu::jefkantu_late(order, build, out);
+    show_answer(b"late", word);
+    show_bytes(out);
+}
+
+fn late_case() {
+    let mut order = [0u8; MOST_BYTES];
+    let size = next_bytes(&mut order);
+    let mut build = [0u8; MOST_BYTES];
+    let bytes = next_bytes(&mut build);
+    let mut out = [BYTE; MOST_SCRIPT];
+    let room = next_room(&out);
+    late_into(&order[..size], &build[..bytes], &mut out[..room]);
+}
+
 // Whether there was a case; its first byte names the operation.
 fn next_case() -> bool {
     let operation = next_byte();
@@ -315,6 +331,7 @@ fn next_case() -> bool {
         8 => write_list_case(),
         9 => read_list_case(),
         10 => partition_sets_case(),
+        11 => late_case(),
         _ => return false,
     }
     true

@@ -1,8 +1,11 @@
 //! What the operations are given.
 
 use super::Operation;
+use crate::answer::Cause;
+use crate::build::Build;
 use crate::generate::random::Random;
-use crate::generate::{builds, lists, papers, scripts, slow, Scale};
+use crate::generate::{builds, late, lists, papers, scripts, slow, Scale};
+use crate::late::Late;
 use crate::order::{Order, Task};
 use crate::script::{self, Record};
 use crate::{check, counted, list, speed, text};
@@ -56,11 +59,24 @@ impl Given {
         match operation {
             Operation::Plan => counted::plan(&order).1,
             Operation::CheckInOne => checked(&order, &self.in_one),
+            Operation::Late => {
+                let build = check::read(&self.in_one, &order).expect("a build");
+                late::terms(&order, &build).map_or(0, |(check, late)| check + late)
+            }
             Operation::Check | Operation::Run | Operation::PartitionSets => {
                 checked(&order, &self.build)
             }
             _ => 0,
         }
+    }
+
+    /// The late one's records, of any number.
+    pub fn late_records(&self) -> usize {
+        Late::new(&self.order, &self.in_one).map_or(0, |late| late.script.len())
+    }
+
+    pub fn is_late(&self) -> bool {
+        speed::check(&self.order, &self.in_one).number == Cause::Late as u16
     }
 
     fn partitions(&self) -> u8 {
@@ -144,6 +160,29 @@ pub fn of_list(list: String) -> Given {
 fn plain() -> Given {
     let order = Order { processors: 1, tasks: vec![Task { m: 1, t: 750, d: 750, c: 750 }] };
     Given::new(&order, &[])
+}
+
+fn of_late((order, build): (Order, Build)) -> Given {
+    Given { order: order.bytes(), in_one: build.bytes(), ..plain() }
+}
+
+/// So many late builds whose script has the most records there can be.
+pub fn on_the_line(count: usize) -> Vec<Given> {
+    let mut random = Random::new(6);
+    let mut all = Vec::new();
+    while all.len() < count {
+        let given = of_late(late::on_the_line(&mut random));
+        if given.late_records() == Record::MOST {
+            all.push(given);
+        }
+    }
+    all
+}
+
+/// The orders of slow.txt as builds that are refused 29, each with its place there.
+pub fn slow_late() -> Vec<(usize, Given)> {
+    let given = |(place, order, build)| (place, of_late((order, build)));
+    late::slow_ones().into_iter().map(given).collect()
 }
 
 /// The orders of slow.txt, each with a legal script.

@@ -37,6 +37,8 @@ pub enum Operation {
     WriteList,
     ReadList,
     PartitionSets,
+    /// The late job of that build.
+    Late,
 }
 
 impl Operation {
@@ -51,6 +53,7 @@ impl Operation {
             Operation::WriteList => "write_list",
             Operation::ReadList => "read_list",
             Operation::PartitionSets => "partition_sets",
+            Operation::Late => "late, all in one",
         }
     }
 
@@ -63,8 +66,8 @@ impl Operation {
 
     /// Whether it asks what is asked by some t, so that terms are counted.
     pub fn has_terms(self) -> bool {
-        use Operation::{Check, CheckInOne, PartitionSets, Plan, Run};
-        matches!(self, Plan | Check | CheckInOne | Run | PartitionSets)
+        use Operation::{Check, CheckInOne, Late, PartitionSets, Plan, Run};
+        matches!(self, Plan | Check | CheckInOne | Run | PartitionSets | Late)
     }
 
     /// The answer of a program, over cleared outputs.
@@ -80,6 +83,7 @@ impl Operation {
             Operation::WriteList => program.write_list(*set, &mut [0; list::MOST]),
             Operation::ReadList => program.read_list(list, &mut 0),
             Operation::PartitionSets => program.partition_sets(order, build, &mut [0; 32]),
+            Operation::Late => program.late(order, in_one, &mut [0; 6_144]),
         }
     }
 }

@@ -1,15 +1,23 @@
 //! Rows of figures, and whether they keep within the limits.
 
 use super::given::Given;
-use super::times::best;
+use super::times::{alike, best};
 use super::{Operation, Side, SIDES};
 
 /// The tables as they are printed.
 pub struct Tables {
     /// Each figure is the best of so many.
     pub runs: u32,
-    /// The largest ratio of each operation, and the row that has it.
-    pub largest: Vec<(Operation, f64, String)>,
+    /// The largest ratio of each that has a limit.
+    pub largest: Vec<Largest>,
+}
+
+/// What a limit is about, the limit, the largest ratio, and the row that has it.
+pub struct Largest {
+    what: &'static str,
+    limit: f64,
+    ratio: f64,
+    row: String,
 }
 
 impl Tables {
@@ -27,7 +35,9 @@ impl Tables {
             return;
         }
         let timed: Vec<&Side> = sides.iter().map(|&side| &SIDES[side]).collect();
-        let seconds = best(operation, &timed, given, self.runs);
+        alike(operation, &timed, given);
+        let calls: Vec<(Operation, &Side)> = timed.iter().map(|&side| (operation, side)).collect();
+        let seconds = best(&calls, given, self.runs);
         let fastest = seconds[1..].iter().copied().fold(f64::INFINITY, f64::min);
         let ratio = seconds[0] / fastest;
         let cell = |side: usize| match sides.iter().position(|&timed| timed == side) {
@@ -45,14 +55,40 @@ impl Tables {
         };
         let (what, cases) = (operation.name(), given.len());
         println!("| {name} | {what} | {cases} | {records} | {terms} |{cells} {ratio:.2} |");
-        self.note(operation, ratio, name);
+        self.note(operation.name(), operation.limit(), ratio, name);
     }
 
-    fn note(&mut self, operation: Operation, ratio: f64, name: &str) {
-        match self.largest.iter_mut().find(|largest| largest.0 == operation) {
-            Some(largest) if ratio <= largest.1 => {}
-            Some(largest) => *largest = (operation, ratio, name.into()),
-            None => self.largest.push((operation, ratio, name.into())),
+    /// Prints a heading and the head of a table of the library's late job beside its check.
+    pub fn head_beside(&self, title: &str, first: &str) {
+        println!("\n## {title}\n");
+        println!("| {first} | Answer | Cases | Records | Terms, check | Terms, late | Check, µs | Late, µs | Ratio |");
+        println!("|---|---|---|---|---|---|---|---|---|");
+    }
+
+    /// One row: the means of the library's check and of its late job, for builds that are answered alike, and how many
+    /// times as long as the check, which is in it, the late job takes.
+    pub fn row_beside(&mut self, name: &str, given: &[&Given], limit: Option<f64>) {
+        let [check, late] = [Operation::CheckInOne, Operation::Late];
+        let seconds = best(&[(check, &SIDES[0]), (late, &SIDES[0])], given, self.runs);
+        let ratio = seconds[1] / seconds[0];
+        let [checked, shown] = seconds[..] else { return };
+        let (checked, shown) = (checked * 1e6, shown * 1e6);
+        let number = late.answer(SIDES[0].program, given[0]).number;
+        let (cases, records) = (given.len(), mean(given, |given| given.late_records() as u64));
+        let terms = [check, late].map(|operation| mean(given, |given| given.terms(operation)));
+        let [terms_of_check, terms_of_late] = terms;
+        println!("| {name} | {number} | {cases} | {records} | {terms_of_check} | {terms_of_late} | {checked:.2} | {shown:.2} | {ratio:.2} |");
+        if let Some(limit) = limit {
+            self.note("late beside check, slow orders", limit, ratio, name);
+        }
+    }
+
+    fn note(&mut self, what: &'static str, limit: f64, ratio: f64, row: &str) {
+        let new = Largest { what, limit, ratio, row: row.into() };
+        match self.largest.iter_mut().find(|largest| largest.what == what) {
+            Some(largest) if ratio <= largest.ratio => {}
+            Some(largest) => *largest = new,
+            None => self.largest.push(new),
         }
     }
 
@@ -61,10 +97,10 @@ impl Tables {
         println!(
             "\n## Largest ratios\n\n| Operation | Ratio | Limit | Orders |\n|---|---|---|---|"
         );
-        for (operation, ratio, name) in &self.largest {
-            println!("| {} | {ratio:.2} | {} | {name} |", operation.name(), operation.limit());
+        for Largest { what, limit, ratio, row } in &self.largest {
+            println!("| {what} | {ratio:.2} | {limit} | {row} |");
         }
-        self.largest.iter().all(|(operation, ratio, _)| *ratio <= operation.limit())
+        self.largest.iter().all(|largest| largest.ratio <= largest.limit)
     }
 }
 

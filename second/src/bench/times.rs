@@ -19,23 +19,26 @@ fn time(operation: Operation, side: &Side, given: &[&Given], times: u32) -> Dura
     start.elapsed() / times
 }
 
-/// The best time of each side for one of the given, in seconds, over so many runs, the sides in turn.
-///
 /// The sides must answer alike.
-pub fn best(operation: Operation, sides: &[&Side], given: &[&Given], runs: u32) -> Vec<f64> {
+pub fn alike(operation: Operation, sides: &[&Side], given: &[&Given]) {
     for given in given {
         let mut answers = sides.iter().map(|side| operation.answer(side.program, given));
         let first = answers.next();
         assert!(answers.all(|answer| Some(answer) == first), "the sides differ");
     }
-    let enough = |side: &&Side| {
+}
+
+/// The best time of each call, an operation of a side, for one of the given, in seconds, over so many runs, the calls in
+/// turn.
+pub fn best(calls: &[(Operation, &Side)], given: &[&Given], runs: u32) -> Vec<f64> {
+    let enough = |&(operation, side): &(Operation, &Side)| {
         let once = time(operation, side, given, 1).max(Duration::from_nanos(100));
         (LEAST.as_nanos() / once.as_nanos()).clamp(1, 100_000) as u32
     };
-    let times: Vec<u32> = sides.iter().map(enough).collect();
-    let mut best = vec![Duration::MAX; sides.len()];
+    let times: Vec<u32> = calls.iter().map(enough).collect();
+    let mut best = vec![Duration::MAX; calls.len()];
     for _ in 0..runs {
-        for ((side, &times), best) in sides.iter().zip(&times).zip(&mut best) {
+        for ((&(operation, side), &times), best) in calls.iter().zip(&times).zip(&mut best) {
             *best = time(operation, side, given, times).min(*best);
         }
     }

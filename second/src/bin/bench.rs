@@ -6,13 +6,13 @@
 use second::bench::given::{self, Given};
 use second::bench::table::Tables;
 use second::bench::Operation::{
-    Check, CheckInOne, PartitionSets, Plan, ReadList, ReadText, Run, WriteList, WriteText,
+    Check, CheckInOne, Late, PartitionSets, Plan, ReadList, ReadText, Run, WriteList, WriteText,
 };
 use second::generate::{lists, papers};
 use std::process::exit;
 
 /// All sides; without the second program, whose plain search takes minutes for the slow orders; and without the program
-/// for speed, which has the second program's text and lists.
+/// for speed, which has the second program's text, lists and late jobs.
 const ALL: [usize; 3] = [0, 1, 2];
 const FAST: [usize; 2] = [0, 2];
 const PLAIN: [usize; 2] = [0, 1];
@@ -114,6 +114,27 @@ fn lists(tables: &mut Tables) {
     }
 }
 
+/// How many times as long as the check the late job may take for a slow order.
+const LATE: f64 = 2.0;
+
+fn late(tables: &mut Tables) {
+    tables.head("Late jobs", "Orders");
+    let families = papers::FAMILIES.map(|(name, draw)| (name, given::family(draw, ORDERS)));
+    let mut rows: Vec<(&str, Vec<Given>)> = families.into_iter().collect();
+    rows.iter_mut().for_each(|(_, given)| given.retain(Given::is_late));
+    rows.push(("1,024 records", given::on_the_line(20)));
+    for (name, given) in &rows {
+        tables.row(name, Late, &PLAIN, &given.iter().collect::<Vec<&Given>>());
+    }
+    tables.head_beside("Late jobs beside the check", "Orders");
+    for (name, given) in rows.iter().filter(|(_, given)| !given.is_empty()) {
+        tables.row_beside(name, &given.iter().collect::<Vec<&Given>>(), None);
+    }
+    for (place, given) in &given::slow_late() {
+        tables.row_beside(&format!("slow {}", place + 1), &[given], Some(LATE));
+    }
+}
+
 fn main() {
     let mut tables = Tables { runs: 25, largest: Vec::new() };
     let mut limits = false;
@@ -137,6 +158,7 @@ fn main() {
     slow(&mut tables);
     texts(&mut tables);
     lists(&mut tables);
+    late(&mut tables);
     if !tables.close() && limits {
         println!("\nsome ratio is over its limit");
         exit(1);

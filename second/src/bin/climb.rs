@@ -1,14 +1,14 @@
-//! Looks for orders that are slow for the library to plan or to check, by hill climbing over their numbers.
+//! Looks for orders that are slow for the library to plan, to check or to show late, by hill climbing over their numbers.
 //!
-//! `climb plan|check [SEED] [SECONDS]` climbs from cores with newcomers, and from the orders of slow.txt, then from
+//! `climb plan|check|late [SEED] [SECONDS]` climbs from cores with newcomers, and from the orders of slow.txt, then from
 //! random ones of the families of `generate::slow`, by the terms of `counted`; prints the worst order of each climb in that file's form, and fails if
 //! one is over the limit.
 //! `climb sift [K]` counts the orders of slow.txt and of the standard input, and prints the K worst by plan and by check.
 
-use second::counted::{self, MOST_OF_CHECK, MOST_OF_PLAN};
+use second::counted::{self, MOST_OF_CHECK, MOST_OF_LATE, MOST_OF_PLAN};
 use second::generate::cores::Cores;
 use second::generate::random::Random;
-use second::generate::{builds, slow};
+use second::generate::{builds, late, slow};
 use second::order::Order;
 use std::cmp::Reverse;
 use std::process::exit;
@@ -27,6 +27,11 @@ fn plan_terms(order: &Order) -> u64 {
 /// The terms of checking the build that has all tasks in one partition.
 fn check_terms(order: &Order) -> u64 {
     counted::most_terms(order, &builds::ranked_in_one(order))
+}
+
+/// The terms of the search for the late job of that build, beside its check's.
+fn late_terms(order: &Order) -> u64 {
+    late::terms(order, &late::in_one(order)).map_or(0, |(_, late)| late)
 }
 
 /// What is climbed over, and the order that it makes.
@@ -107,11 +112,12 @@ fn main() {
     let within = match what.as_str() {
         "plan" => climbs(plan_terms, MOST_OF_PLAN, number(1), number(60)),
         "check" => climbs(check_terms, MOST_OF_CHECK, number(1), number(60)),
+        "late" => climbs(late_terms, MOST_OF_LATE, number(1), number(60)),
         "sift" => {
             sift(number(10) as usize);
             true
         }
-        _ => panic!("climb plan|check [SEED] [SECONDS], or climb sift [K]"),
+        _ => panic!("climb plan|check|late [SEED] [SECONDS], or climb sift [K]"),
     };
     if !within {
         eprintln!("some order is over the limit");

@@ -4,7 +4,7 @@ use second::answer::Answer;
 use second::case::{Case, Operation, Outcome};
 use second::generate::cases;
 use second::library::{
-    jefkantu_check, jefkantu_partition_sets, jefkantu_plan, jefkantu_read_list,
+    jefkantu_check, jefkantu_late, jefkantu_partition_sets, jefkantu_plan, jefkantu_read_list,
     jefkantu_read_order, jefkantu_read_text, jefkantu_run, jefkantu_write_list,
     jefkantu_write_order, jefkantu_write_text,
 };
@@ -89,6 +89,11 @@ impl Program for Watched {
             jefkantu_partition_sets(o.0, o.1, b.0, b.1, to, room)
         })
     }
+
+    fn late(&self, order: &[u8], build: &[u8], out: &mut [u8]) -> Answer {
+        let (to, room) = (out.as_mut_ptr(), out.len());
+        self.lend([order, build], |[o, b]| unsafe { jefkantu_late(o.0, o.1, b.0, b.1, to, room) })
+    }
 }
 
 /// Whether the library's operation is linked.
@@ -102,6 +107,7 @@ fn linked(operation: &Operation) -> bool {
         Operation::WriteList | Operation::ReadList | Operation::PartitionSets => {
             cfg!(feature = "lists")
         }
+        Operation::Late => cfg!(feature = "late"),
     }
 }
 
@@ -113,7 +119,7 @@ fn operations(options: &Options) -> Vec<Operation> {
     }
     if operations.is_empty() || !operations.iter().all(linked) {
         eprintln!(
-            "not linked; build with --features read_write,plan,check,run,text,lists as needed"
+            "not linked; build with --features read_write,plan,check,run,text,lists,late as needed"
         );
         exit(2)
     }
@@ -138,9 +144,13 @@ fn alike(library: &Watched, case: &Case) -> Option<Outcome> {
     None
 }
 
-/// That, and a text or list that was written is read back as what it was written from.
+/// That, a text or list that was written is read back as what it was written from, and a late script is seen to miss.
 fn holds(library: &Watched, case: &Case) -> Option<Outcome> {
     let outcome = alike(library, case)?;
+    if !case.misses(&outcome) {
+        println!("not late in the box: {}", case.line(&outcome));
+        return None;
+    }
     if let Some(read) = case.read_back(&outcome) {
         if !case.came_back(&alike(library, &read)?) {
             println!("read back as another: {}", case.line(&outcome));

@@ -1,5 +1,5 @@
-//! Writes vectors: a few of each number of each operation, out of the random cases of a seed, and the texts and
-//! lists that were typed.
+//! Writes vectors: a few of each number of each operation, out of the random cases of a seed, and the texts, lists and
+//! late builds that were typed.
 
 use second::generate::{cases, Scale};
 use second::{options::Options, program::Second, vectors::Choice};

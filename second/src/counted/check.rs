@@ -21,6 +21,22 @@ pub fn most_terms(order: &Order, build: &Build) -> u64 {
     terms
 }
 
+/// The worst responses by number, 0 for a member that does not pass, or comes after one by number.
+pub fn worst_responses(order: &Order, build: &Build) -> [u32; 32] {
+    Tests::new(order, build, &mut 0).known.worsts
+}
+
+/// The members of a partition.
+pub fn line_of(order: &Order, build: &Build, partition: u32) -> Line {
+    let mut line = Line::default();
+    for (i, member) in build.members.iter().enumerate() {
+        if member.partition == partition {
+            line.put_in(order, i);
+        }
+    }
+    line
+}
+
 /// The members' tests, partition by partition in rank order; none of a task after one that is known not to pass: no
 /// window of such a one closes before that of the one above it.
 struct Tests {
@@ -30,10 +46,8 @@ struct Tests {
 
 impl Tests {
     fn new(order: &Order, build: &Build, terms: &mut u64) -> Tests {
-        let mut lines = vec![Line::default(); build.partitions.len()];
-        for (i, member) in build.members.iter().enumerate() {
-            lines[member.partition as usize].put_in(order, i);
-        }
+        let partitions = 0..build.partitions.len() as u32;
+        let lines: Vec<Line> = partitions.map(|j| line_of(order, build, j)).collect();
         let mut known = Known::default();
         let mut failing = build.members.len();
         for line in &lines {

@@ -10,7 +10,18 @@ use crate::response::Roster;
 ///
 /// Partitions lie in any order on the processors, some of them empty or wider than needed.
 pub fn by_hand(random: &mut Random, order: &Order) -> Build {
-    let mut rosters = if random.one_in(4) { blind(random, order) } else { sensible(random, order) };
+    let rosters = if random.one_in(4) { blind(random, order) } else { sensible(random, order) };
+    laid_out(random, order, rosters)
+}
+
+/// Such a build with any task in any of a few partitions.
+pub fn blindly(random: &mut Random, order: &Order) -> Build {
+    let rosters = blind(random, order);
+    laid_out(random, order, rosters)
+}
+
+/// The build of these members, those of the last partitions moved to the first where processors are short.
+fn laid_out(random: &mut Random, order: &Order, mut rosters: Vec<Roster>) -> Build {
     while width(&rosters) > order.processors && rosters.len() > 1 {
         merge_last(order, &mut rosters);
     }
@@ -21,22 +32,41 @@ pub fn by_hand(random: &mut Random, order: &Order) -> Build {
 
 /// The build with all tasks in one partition, with sound ranks, and sound responses where they pass.
 pub fn all_in_one(order: &Order) -> Build {
-    let mut build = ranked_in_one(order);
-    let rosters = build.rosters(order);
-    for member in &mut build.members {
-        member.response = rosters[0].response(member.rank as usize).unwrap_or(0);
-    }
-    build
+    with_responses(order, ranked_in_one(order))
 }
 
 /// The build with all tasks in one partition, with sound ranks and no responses.
 pub fn ranked_in_one(order: &Order) -> Build {
-    let partitions = vec![Partition { volume: order.processors, first: 0 }];
-    let members = vec![Member::default(); order.tasks.len()];
+    let whole = Partition { volume: order.processors, first: 0 };
+    ranked(order, vec![whole], &vec![0; order.tasks.len()])
+}
+
+/// The build with each task in its partition, each of one processor, with sound ranks, and sound responses where they pass.
+pub fn at_homes(order: &Order, homes: &[u32]) -> Build {
+    let last = homes.iter().copied().max().unwrap_or(0);
+    let partitions = (0..=last).map(|first| Partition { volume: 1, first }).collect();
+    with_responses(order, ranked(order, partitions, homes))
+}
+
+/// The build with each task in its partition, with sound ranks and no responses.
+fn ranked(order: &Order, partitions: Vec<Partition>, homes: &[u32]) -> Build {
+    let member = |&partition| Member { partition, ..Member::default() };
+    let members = homes.iter().map(member).collect();
     let mut build = Build { processors: order.processors, partitions, members };
+    for roster in build.rosters(order) {
+        for (rank, &i) in roster.numbers.iter().enumerate() {
+            build.members[i].rank = rank as u32;
+        }
+    }
+    build
+}
+
+/// With the responses of all that pass.
+fn with_responses(order: &Order, mut build: Build) -> Build {
     let rosters = build.rosters(order);
-    for (rank, &i) in rosters[0].numbers.iter().enumerate() {
-        build.members[i].rank = rank as u32;
+    for member in &mut build.members {
+        let roster = &rosters[member.partition as usize];
+        member.response = roster.response(member.rank as usize).unwrap_or(0);
     }
     build
 }

@@ -1,12 +1,14 @@
 //! Random cases.
 
 use super::random::Random;
-use super::{builds, damage, lists, orders, scripts, texts, Scale};
+use super::{builds, damage, late, lists, orders, scripts, texts, Scale};
 use crate::build::Build;
 use crate::case::{Case, Operation};
 use crate::fit::first_fit;
+use crate::late::Late;
 use crate::order::{Order, Task};
-use crate::{list, script, text};
+use crate::script::{self, Record};
+use crate::{list, text};
 
 /// The groups of some operations, and how many of so many cases each of them gets.
 pub fn shares(operations: &[Operation], cases: u64) -> Vec<(Vec<Operation>, u64)> {
@@ -17,7 +19,7 @@ pub fn shares(operations: &[Operation], cases: u64) -> Vec<(Vec<Operation>, u64)
     Operation::groups(operations).into_iter().map(share).collect()
 }
 
-/// So many cases of some operations: the texts and lists that were typed, then group by group those of a seed.
+/// So many cases of some operations: those that were typed, then group by group those of a seed.
 pub fn drawn(seed: u64, cases: u64, operations: &[Operation]) -> impl Iterator<Item = Case> + '_ {
     let typed = typed().filter(|case| operations.contains(&case.operation()));
     let random = shares(operations, cases).into_iter().flat_map(move |(group, cases)| {
@@ -27,9 +29,18 @@ pub fn drawn(seed: u64, cases: u64, operations: &[Operation]) -> impl Iterator<I
 }
 
 /// The texts and lists that were typed, and the orders and sets of those that are accepted; there is some more room than
-/// needed.
+/// needed. The late builds that were typed, in the room that they name.
 pub fn typed() -> impl Iterator<Item = Case> {
-    typed_texts().chain(typed_lists())
+    typed_texts().chain(typed_lists()).chain(typed_late())
+}
+
+fn typed_late() -> impl Iterator<Item = Case> {
+    let case = |late::Typed { order, build, room, .. }| Case::Late {
+        order: order.bytes(),
+        build: build.bytes(),
+        room,
+    };
+    late::typed().into_iter().map(case)
 }
 
 fn typed_lists() -> impl Iterator<Item = Case> {
@@ -72,6 +83,7 @@ fn draw(random: &mut Random, operation: Operation, scale: &Scale) -> Case {
         Operation::WriteList => write_list(random),
         Operation::ReadList => Case::ReadList { text: lists::text(random) },
         Operation::PartitionSets => partition_sets(random, scale),
+        Operation::Late => late(random, scale),
     }
 }
 
@@ -240,4 +252,38 @@ fn partition_sets(random: &mut Random, scale: &Scale) -> Case {
         build: build_bytes(random, &build, 2),
         room: room(random, needed),
     }
+}
+
+/// An order and a build that is mostly late, each misdrawn or damaged or not, and room around what its script takes.
+fn late(random: &mut Random, scale: &Scale) -> Case {
+    let (mut order, mut build) = match random.below(6) {
+        0 => {
+            let order = orders::order(random, scale);
+            let build = build(random, &order);
+            (order, build)
+        }
+        _ => late::order_and_build(random, scale),
+    };
+    let needed = script_room(random, &order, &build);
+    match random.below(24) {
+        0 | 1 => orders::miscount(random, &mut order),
+        2..=4 => orders::misdraw(random, &mut order),
+        5..=6 => builds::misdraw(random, &mut build),
+        _ => {}
+    }
+    Case::Late {
+        order: order_bytes(random, &order, 5),
+        build: build_bytes(random, &build, 6),
+        room: room(random, needed),
+    }
+}
+
+/// What the script of a late build takes, a little more than the most at most; any such length for other builds.
+fn script_room(random: &mut Random, order: &Order, build: &Build) -> usize {
+    let most = Record::MOST + 6;
+    let records = match Late::new(&order.bytes(), &build.bytes()) {
+        Ok(late) if late.script.len() <= Record::MOST || random.one_in(2) => late.script.len(),
+        _ => random.spread(0, most as u32) as usize,
+    };
+    Record::LAYOUT.bytes() * records.min(most)
 }

@@ -1,9 +1,10 @@
-//! Random orders, builds, scripts, texts, lists and whole cases, the same ones for the same seed.
+//! Random orders, builds, late ones too, scripts, texts, lists and whole cases, the same ones for the same seed.
 
 pub mod builds;
 pub mod cases;
 pub mod cores;
 pub mod damage;
+pub mod late;
 pub mod lists;
 pub mod orders;
 pub mod papers;

@@ -23,7 +23,8 @@ use crate::program::Program;
 /// The most tasks, and the most partitions that can have one.
 const MOST: usize = 32;
 
-/// The program written for speed; orders, texts and lists are read and written by the second program.
+/// The program written for speed; orders, texts and lists are read and written, and late jobs shown, by the second
+/// program.
 pub struct Speed;
 
 impl Program for Speed {
@@ -65,5 +66,9 @@ impl Program for Speed {
 
     fn partition_sets(&self, order: &[u8], build: &[u8], out: &mut [u64]) -> Answer {
         partition_sets(order, build, out)
+    }
+
+    fn late(&self, order: &[u8], build: &[u8], out: &mut [u8]) -> Answer {
+        crate::late(order, build, out)
     }
 }
