@@ -1,4 +1,6 @@
 // What the members of a partition ask by a tick, and the search for the first tick at which it is met.
+#![tactic(auto)]
+
 mod lines;
 mod steps;
 
@@ -27,14 +29,14 @@ pub const ROWS: usize = 4 * Order::MOST_TASKS;
 pub const WHOLE: u64 = 3_491_888_400;
 
 // What was found, and a tick before which nothing more is released.
-#[derive(Drop)]
+#[derive(Clone, Copy)]
 pub struct Searched {
     pub found: Found,
     pub next: u32,
 }
 
 // When the line is asked for: after how many more steps, after how many it was last, and which periods then go by their share.
-#[derive(Drop)]
+#[derive(Clone, Copy)]
 pub struct Pace {
     pub reach: u32,
     pub wait: u32,
@@ -42,7 +44,7 @@ pub struct Pace {
 }
 
 // Where the search goes on, and when it next asks for the line.
-#[derive(Drop)]
+#[derive(Clone, Copy)]
 pub struct Ahead {
     pub to: u64,
     pub wait: u32,

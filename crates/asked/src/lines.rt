@@ -6,7 +6,7 @@ ghost use Rattle.asked.specs.Lines.{line_of, line_in, line_end};
 use crate::{COST, PERIOD, ROWS, SHARE, WHOLE, steps};
 
 // What rests from a tick on, and the share of each tick that is added.
-#[derive(Drop)]
+#[derive(Clone, Copy)]
 pub struct Line {
     pub rest: u64,
     pub slope: u64,

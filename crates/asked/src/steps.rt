@@ -10,7 +10,7 @@ use crate::{COST, PERIOD, ROWS};
 use model::Order;
 
 // All that is asked, and the first release to come.
-#[derive(Drop)]
+#[derive(Clone, Copy)]
 pub struct Step {
     pub all: u64,
     pub next: u32,

@@ -1,15 +1,17 @@
 // Fields of bits in bytes, most significant bit first: taken front to back by a cursor, and written.
+#![tactic(auto)]
+
 ghost use Rattle.std.specs.Prelude.{◌≡◌, ◌++◌, ◌+◌, ◌*◌, ◌^◌, ◌≤◌, ◌<◌, length, get_or, drop};
 ghost use Rattle.bits.specs.Field.{field};
 ghost use Rattle.bits.specs.Layout.{packed};
 
 // The next bit to take.
-#[derive(Drop)]
+#[derive(Clone, Copy)]
 pub struct Cursor {
     pub at: usize,
 }
 
-#[derive(Drop)]
+#[derive(Clone, Copy)]
 pub struct Taken {
     pub value: u32,
     pub next: Cursor,

@@ -1,4 +1,6 @@
 // The build's records on the wire, read: each as one number, from which its fields are cut.
+#![tactic(auto)]
+
 ghost use Rattle.std.specs.Prelude.{◌≡◌, ◌&&◌, ◌≤◌, eqb};
 ghost use Rattle.model.specs.Limits.{most_tasks, most_partitions};
 ghost use Rattle.build.specs.Build.{build_header_of};
@@ -7,7 +9,7 @@ ghost use Rattle.build.specs.Taken.{TakesPartition, TakesMember, TakesPlaces, Ta
 use model::{Build, Member, Order, Partition};
 
 // The header's fields.
-#[derive(Drop)]
+#[derive(Clone, Copy)]
 pub struct BuildHeader {
     pub version: u32,
     pub processors: u32,
@@ -16,35 +18,35 @@ pub struct BuildHeader {
 }
 
 // A partition's record taken, with its spare bits.
-#[derive(Drop)]
+#[derive(Clone, Copy)]
 pub struct PartitionTaken {
     pub place: Partition,
     pub spare: u64,
 }
 
 // A task's record taken, with its spare bit.
-#[derive(Drop)]
+#[derive(Clone, Copy)]
 pub struct MemberTaken {
     pub member: Member,
     pub spare: u64,
 }
 
 // The partitions' records taken, and whether no spare bit of theirs is set.
-#[derive(Drop)]
+#[derive(Clone, Copy)]
 pub struct PlacesTaken {
     pub clear: bool,
     pub places: [Partition; Build::MOST_PARTITIONS],
 }
 
 // The tasks' records taken, and whether no spare bit of theirs is set.
-#[derive(Drop)]
+#[derive(Clone, Copy)]
 pub struct MembersTaken {
     pub clear: bool,
     pub members: [Member; Order::MOST_TASKS],
 }
 
 // A build taken, and whether no spare bit is set.
-#[derive(Drop)]
+#[derive(Clone, Copy)]
 pub struct BuildTaken {
     pub clear: bool,
     pub build: Build,

@@ -1,4 +1,6 @@
 // The build's bytes, written into the front of the caller's buffer.
+#![tactic(auto)]
+
 ghost use Rattle.std.specs.Prelude.{◌≡◌, ◌++◌, ◌+◌, ◌*◌, ◌≤◌, length, drop};
 ghost use Rattle.bits.specs.Layout.{bytes_in, record_bytes, FitIn};
 ghost use Rattle.model.specs.Layouts.{build_header, partition_record, member_record, build_length};

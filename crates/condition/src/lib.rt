@@ -1,1 +1,3 @@
 // Condition 3, what our yes means: the theorem over the check's and the machine's own definitions; no code.
+#![tactic(auto)]
+

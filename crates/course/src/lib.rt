@@ -1,4 +1,6 @@
 // The run of a legal script, partition by partition: the finish tick of each record.
+#![tactic(auto)]
+
 mod chains;
 mod turns;
 

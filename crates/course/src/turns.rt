@@ -8,7 +8,7 @@ use model::{Order, Release};
 use stepper::{Machine, NO_RECORD};
 
 // Members that are released, as ranks, and the partition's next record.
-#[derive(Drop)]
+#[derive(Clone, Copy)]
 pub struct Gathered {
     pub ranks: u32,
     pub ahead: u16,

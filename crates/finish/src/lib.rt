@@ -1,1 +1,3 @@
 // Finish ticks: what a run writes, as a definition; no code.
+#![tactic(auto)]
+

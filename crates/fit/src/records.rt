@@ -13,7 +13,7 @@ use fitting::Placing;
 use model::{Answer, Build, Member, Order};
 
 // The build, empty where a task was refused.
-#[derive(Drop)]
+#[derive(Clone, Copy)]
 pub struct Fitted {
     pub answer: Answer,
     pub build: Build,

@@ -1,4 +1,6 @@
 // How first fit stands, and what comes of it.
+#![tactic(auto)]
+
 ghost use Rattle.std.specs.Prelude.{◌≡◌, ◌+◌, ◌≤◌, ◌<◌};
 ghost use Rattle.model.specs.Limits.{most_tasks, most_partitions, most_processors};
 ghost use Rattle.fitting.specs.Steps.{nothing_placed, put as put_of, open_next, going_on};
@@ -6,7 +8,7 @@ ghost use Rattle.fitting.specs.Steps.{nothing_placed, put as put_of, open_next, 
 use model::{Answer, Build, Order, Partition};
 
 // Each task's partition, the opened partitions, their count, and the processors used.
-#[derive(Drop)]
+#[derive(Clone, Copy)]
 pub struct Placing {
     pub homes: [u32; Order::MOST_TASKS],
     pub places: [Partition; Build::MOST_PARTITIONS],
@@ -57,7 +59,7 @@ impl Placing {
 }
 
 // The placing that was reached, and whether it went on or a task was refused there.
-#[derive(Drop)]
+#[derive(Clone, Copy)]
 pub struct Outcome {
     pub answer: Answer,
     pub placing: Placing,

@@ -1,4 +1,6 @@
 // The build check: any bytes as an order and any as a build are answered, by the first rule that is broken.
+#![tactic(auto)]
+
 ghost use Rattle.std.specs.Prelude.{◌≡◌};
 ghost use Rattle.model.specs.declared.answer.Answer.TheVariants.{Refused};
 ghost use Rattle.model.specs.Limits.{empty_order, empty_build};
@@ -11,7 +13,7 @@ use inspect_layout::Laid;
 use model::{Answer, Build, Order, Refusal};
 
 // The answer, with the order and the build that were read.
-#[derive(Drop)]
+#[derive(Clone, Copy)]
 pub struct Checked {
     pub answer: Answer,
     pub order: Order,

@@ -1,4 +1,6 @@
 // 20 to 23, in turn, and the build that was read.
+#![tactic(auto)]
+
 ghost use Rattle.std.specs.Prelude.{◌≡◌, ◌≤◌};
 ghost use Rattle.model.specs.declared.answer.Answer.TheVariants.{Refused};
 ghost use Rattle.model.specs.declared.answer.Refusal.TheVariants.{OfBuild};
@@ -9,7 +11,7 @@ use build::BuildHeader;
 use model::{Answer, Build, BuildCause, Order, Refusal};
 
 // The build, empty where it is refused.
-#[derive(Drop)]
+#[derive(Clone, Copy)]
 pub struct Laid {
     pub answer: Answer,
     pub build: Build,

@@ -1,4 +1,6 @@
 // 24: partitions that have processors, all of the order's, and none of an earlier partition's.
+#![tactic(auto)]
+
 ghost use Rattle.std.specs.Prelude.{◌≡◌, false, not, ◌&&◌, ◌||◌, ℕ, ◌+◌, ◌≤◌, ◌<◌, ◌^◌, leb, length, get_or};
 ghost use Rattle.laws.specs.Every.{every};
 ghost use Rattle.laws.specs.Joined.{listed};

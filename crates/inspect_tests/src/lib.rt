@@ -1,4 +1,6 @@
 // 27 to 30: the response test of each task, and its recorded response.
+#![tactic(auto)]
+
 ghost use Rattle.std.specs.Prelude.{◌≡◌, ◌+◌, ◌≤◌, ◌<◌, ltb, length, get_or};
 ghost use Rattle.model.specs.Limits.{most_tasks};
 ghost use Rattle.model.specs.Rules.{first_broken, WithinLimits};
@@ -14,14 +16,14 @@ use model::{Answer, Build, BuildCause, Member, Order, Refusal};
 use verdict::Tested;
 
 // By number, of the tasks up to the lowest that does not pass: a task's worst response, 0 where it does not pass; and of every task a tick before which its window does not close.
-#[derive(Drop)]
+#[derive(Clone, Copy)]
 pub struct Results {
     pub worsts: [u32; Order::MOST_TASKS],
     pub lasts: [u32; Order::MOST_TASKS],
 }
 
 // A partition tested: how many members it has, and the lowest number of a task that does not pass so far.
-#[derive(Drop)]
+#[derive(Clone, Copy)]
 pub struct TestedPart {
     pub size: usize,
     pub lowest: usize,

@@ -1,4 +1,6 @@
 // The C surface, libjefkantu.a: each answer as one word, and the caller's memory.
+#![tactic(auto)]
+
 ghost use Rattle.std.specs.Prelude.{◌≡◌};
 ghost use Rattle.order_out.specs.Write.{columns};
 ghost use Rattle.jefkantu.specs.Word.{answer_word};

@@ -1,4 +1,6 @@
 // The late frame: for a build that the check refuses 29, the bytes of a legal script in which a job of the named task is late.
+#![tactic(auto)]
+
 ghost use Rattle.std.specs.Prelude.{◌≡◌};
 ghost use Rattle.late_find.specs.Found.{NamedLate};
 ghost use Rattle.late.specs.Shown.{late_in_build, late_in_refusal, late_task, ShowsScript, ShowsLate};

@@ -1,4 +1,6 @@
 // When each task comes in the late script: the blocker, the higher members' rows, and the first late job of the named task.
+#![tactic(auto)]
+
 ghost use Rattle.std.specs.Prelude.{◌≡◌, ◌≤◌, ◌<◌, length};
 ghost use Rattle.model.specs.Limits.{most_tasks};
 ghost use Rattle.model.specs.Rules.{Sized, WithinLimits};
@@ -14,28 +16,28 @@ use model::{Build, Order, Task};
 use search::Found;
 
 // A lower member with the largest C: its number, and its C, which is 0 if there is none.
-#[derive(Drop)]
+#[derive(Clone, Copy)]
 pub struct Longest {
     pub number: usize,
     pub cost: u32,
 }
 
 // A job by number, and how long after the begin it starts.
-#[derive(Drop)]
+#[derive(Clone, Copy)]
 pub struct LateJob {
     pub number: u32,
     pub start: u32,
 }
 
 // When one task comes.
-#[derive(Drop)]
+#[derive(Clone, Copy)]
 pub struct Coming {
     pub first: u32,
     pub last: u32,
 }
 
 // What the times of all tasks follow from: the named task, the begin, the tick at which its late job comes, the one at which that job starts, and the blocker.
-#[derive(Drop)]
+#[derive(Clone, Copy)]
 pub struct Late {
     pub named: usize,
     pub begin: u32,

@@ -1,4 +1,6 @@
 // A list of processors read as its set: item by item, each a number or a range, up to the text's end.
+#![tactic(auto)]
+
 ghost use Rattle.std.specs.Prelude.{◌≡◌, ◌≤◌, eqb, length, get_or, drop};
 ghost use Rattle.model.specs.Rules.{first_broken};
 ghost use Rattle.form.specs.Parts.{up_to};
@@ -17,14 +19,14 @@ pub const MOST_TEXT: usize = 1_024;
 const MOST_LISTED: u32 = 63;
 
 // A list read: the answer, and its set, empty on refusal.
-#[derive(Drop)]
+#[derive(Clone, Copy)]
 pub struct ListReading {
     pub answer: Answer,
     pub set: u64,
 }
 
 // An item taken: its answer, its numbers, and where it ends.
-#[derive(Drop)]
+#[derive(Clone, Copy)]
 pub struct ItemTaken {
     pub answer: Answer,
     pub first: u32,

@@ -1,4 +1,6 @@
 // A set of processors written as a list of its runs: its length is counted first, so that a refusal writes nothing.
+#![tactic(auto)]
+
 ghost use Rattle.std.specs.Prelude.{◌≡◌, ◌++◌, ◌^◌, ◌≤◌, ◌<◌, length, drop};
 ghost use Rattle.model.specs.Limits.{most_processors};
 ghost use Rattle.put.specs.Put.{HasRoom, PutsAt};

@@ -5,7 +5,7 @@ ghost use Rattle.model.specs.Answer.{order_number, order_place, call_number, cal
 use crate::Order;
 
 // What is wrong with an order: 1 to 10. A place is a task.
-#[derive(Drop)]
+#[derive(Clone, Copy)]
 pub enum OrderCause {
     OrderShort,
     OrderVersion,
@@ -21,7 +21,7 @@ pub enum OrderCause {
 }
 
 // What a call cannot do with what it is handed: 11 to 13. A place is a task.
-#[derive(Drop)]
+#[derive(Clone, Copy)]
 pub enum CallCause {
     FirstFit(u16),
     Output,
@@ -29,7 +29,7 @@ pub enum CallCause {
 }
 
 // What is wrong with a build: 20 to 30. A place is a task, or a partition where the name says so.
-#[derive(Drop)]
+#[derive(Clone, Copy)]
 pub enum BuildCause {
     BuildShort,
     BuildMismatch,
@@ -45,7 +45,7 @@ pub enum BuildCause {
 }
 
 // What is wrong with a script: 40 to 46. A place is a record.
-#[derive(Drop)]
+#[derive(Clone, Copy)]
 pub enum ScriptCause {
     ScriptLength,
     RecordSpare(u16),
@@ -57,7 +57,7 @@ pub enum ScriptCause {
 }
 
 // What is wrong with the text of an order: 50 to 52. A place is a line.
-#[derive(Drop)]
+#[derive(Clone, Copy)]
 pub enum TextCause {
     LineShape(u16),
     LineNumber(u16),
@@ -65,7 +65,7 @@ pub enum TextCause {
 }
 
 // What is wrong with a list of processors: 60 to 62 and 65. A place is a byte of its text.
-#[derive(Drop)]
+#[derive(Clone, Copy)]
 pub enum ListCause {
     ListShape(u16),
     ListNumber(u16),
@@ -74,14 +74,14 @@ pub enum ListCause {
 }
 
 // Why there is no late script to show: 63 and 64. Neither has a place.
-#[derive(Drop)]
+#[derive(Clone, Copy)]
 pub enum LateCause {
     NotLate,
     ManyRecords,
 }
 
 // Why something is refused.
-#[derive(Drop)]
+#[derive(Clone, Copy)]
 pub enum Refusal {
     OfOrder(OrderCause),
     OfCall(CallCause),
@@ -321,14 +321,14 @@ impl Refusal {
 }
 
 // Done, with the count of bytes or finish ticks written; or refused, for one cause.
-#[derive(Drop)]
+#[derive(Clone, Copy)]
 pub enum Answer {
     Done(u32),
     Refused(Refusal),
 }
 
 // What reading an order gives; where it is refused, the order is empty.
-#[derive(Drop)]
+#[derive(Clone, Copy)]
 pub struct Reading {
     pub answer: Answer,
     pub order: Order,

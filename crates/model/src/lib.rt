@@ -1,4 +1,6 @@
 // The kinds of thing that the planner reads and answers, with their limits, and the answers.
+#![tactic(auto)]
+
 mod answer;
 mod build;
 mod numbers;

@@ -7,7 +7,7 @@ ghost use Rattle.model.specs.Rules.{first_broken, task_rules, range_rules};
 use crate::{Answer, OrderCause, Refusal, within};
 
 // A rigid sporadic gang: width m, period T, deadline D, run time C.
-#[derive(Drop)]
+#[derive(Clone, Copy)]
 pub struct Task {
     pub width: u32,
     pub period: u32,
@@ -64,7 +64,7 @@ impl Task {
 }
 
 // Processors M, tasks n, and the table as one value, zero past its n tasks.
-#[derive(Drop)]
+#[derive(Clone, Copy)]
 pub struct Order {
     pub processors: u32,
     pub tasks: u32,

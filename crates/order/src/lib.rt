@@ -1,4 +1,6 @@
 // The order's reader: from bytes to M, n and the table, or the first refusal.
+#![tactic(auto)]
+
 mod reader;
 
 ghost use Rattle.std.specs.Prelude.{◌≡◌, ◌≤◌, ◌<◌, ◌^◌};
@@ -11,7 +13,7 @@ use model::{Answer, Order, OrderCause, Reading, Refusal, Task};
 use reader::take_field;
 
 // The header's fields.
-#[derive(Drop)]
+#[derive(Clone, Copy)]
 pub struct Header {
     pub version: u32,
     pub processors: u32,
@@ -20,7 +22,7 @@ pub struct Header {
 }
 
 // A task's record taken, and the bit at which the next one begins.
-#[derive(Drop)]
+#[derive(Clone, Copy)]
 pub struct TaskTaken {
     pub task: Task,
     pub spare: u32,
@@ -28,7 +30,7 @@ pub struct TaskTaken {
 }
 
 // The tasks' records taken: 6 of the tasks, and the table.
-#[derive(Drop)]
+#[derive(Clone, Copy)]
 pub struct TableTaken {
     pub spares: Answer,
     pub table: [Task; Order::MOST_TASKS],

@@ -5,7 +5,7 @@ ghost use Rattle.order.specs.Taken.{TakesField};
 use bits::{Cursor, Taken};
 
 // The order's bytes, and the bit at which its next field begins.
-#[derive(Drop)]
+#[derive(Clone, Copy)]
 pub struct OrderReader<'a> {
     pub order: &'a [u8],
     pub at: usize,

@@ -1,4 +1,6 @@
 // The order's writer, in two halves: an order's bytes, or the first refusal; and M and four columns as an order.
+#![tactic(auto)]
+
 ghost use Rattle.std.specs.Prelude.{◌≡◌, ◌++◌, ◌*◌, ◌≤◌, ◌<◌, min, length, drop};
 ghost use Rattle.laws.specs.Joined.{filled};
 ghost use Rattle.bits.specs.Layout.{bytes_in, record_bytes, FitIn};

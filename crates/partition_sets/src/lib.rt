@@ -1,4 +1,6 @@
 // The set of each partition of an accepted build.
+#![tactic(auto)]
+
 ghost use Rattle.std.specs.Prelude.{◌≡◌, ◌++◌, ◌+◌, ◌≤◌, ◌<◌, length, drop};
 ghost use Rattle.partition_sets.specs.Given.{build_sets, PartitionsFit, GivesSets};
 

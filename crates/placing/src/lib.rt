@@ -1,4 +1,6 @@
 // First fit's turns: each task is tried beside the members of each partition, and seated in the line of keys.
+#![tactic(auto)]
+
 ghost use Rattle.std.specs.Prelude.{◌≡◌, ℕ, ◌≤◌, ◌<◌};
 ghost use Rattle.placing.specs.Known.{Trying, TryingIn, TriedIn, Lowest};
 
@@ -7,7 +9,7 @@ use model::Order;
 use search::Found;
 
 // Whether a partition takes a task, and how many members it has without it.
-#[derive(Drop)]
+#[derive(Clone, Copy)]
 struct Tried {
     passes: bool,
     size: usize,

@@ -1,4 +1,6 @@
 // The planner: from an order's bytes to its build's bytes, or the first refusal.
+#![tactic(auto)]
+
 ghost use Rattle.build.specs.Build.{FieldsFit};
 ghost use Rattle.plan.specs.Plan.{PutsBuild, Plans};
 

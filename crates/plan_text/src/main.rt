@@ -1,4 +1,6 @@
 // Plans an order typed as text: M is the one argument, the text is on standard input. It prints what the printer does.
+#![tactic(auto)]
+
 use model::{Answer, Order};
 
 // One byte more than the longest text that is taken.

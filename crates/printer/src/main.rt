@@ -1,4 +1,6 @@
 // The build printer: plans the order on standard input, and prints its build, or the refusal's number and place.
+#![tactic(auto)]
+
 use model::Order;
 
 // One byte more than the longest order, so that a longer input is refused.

@@ -1,1 +1,3 @@
 // What the customer was promised, in one file; no code.
+#![tactic(auto)]
+

@@ -1,4 +1,6 @@
 // Bytes put into the caller's output from a place on: one, digits, and a number in digits.
+#![tactic(auto)]
+
 ghost use Rattle.std.specs.Prelude.{◌≡◌, [], ◌∷◌, ◌+◌, ◌≤◌, length};
 ghost use Rattle.form.specs.Written.{last_digits, digits_in, numeral};
 ghost use Rattle.put.specs.Put.{HasRoom, PutsAt};

@@ -1,4 +1,6 @@
 // The run: the check, then the script's refusals, then one finish tick per record.
+#![tactic(auto)]
+
 ghost use Rattle.inspect.specs.Claims.{AcceptedBuild};
 ghost use Rattle.run.specs.Run.{RanScript, Ran};
 

@@ -1,4 +1,6 @@
 // The script's reader: its bytes are read and judged once, into the numbers that the run uses.
+#![tactic(auto)]
+
 ghost use Rattle.std.specs.Prelude.{◌≡◌, ◌&&◌, ◌+◌, ◌*◌, ◌%◌, ◌≤◌, ◌<◌, eqb, leb, length};
 ghost use Rattle.bits.specs.Field.{field};
 ghost use Rattle.bits.specs.Layout.{bytes_in};
@@ -10,7 +12,7 @@ ghost use Rattle.script.specs.Judged.{TakesRelease, JudgesRelease, JudgesRecords
 use model::{Answer, Order, Refusal, Release, ScriptCause};
 
 // A record taken: tick * 32 + task, its length and its spare bits.
-#[derive(Drop)]
+#[derive(Clone, Copy)]
 pub struct ReleaseTaken {
     pub key: u32,
     pub duration: u32,

@@ -1,4 +1,6 @@
 // What the programs say: a planned order's build, or a refusal's number and place; and that an input cannot be read.
+#![tactic(auto)]
+
 ghost use Rattle.std.specs.Prelude.{◌≤◌};
 ghost use Rattle.model.specs.Limits.{most_tasks, most_partitions};
 

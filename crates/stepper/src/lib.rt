@@ -1,4 +1,6 @@
 // The step machine of one partition by value: what waits and what runs before a tick, and the step to the next.
+#![tactic(auto)]
+
 ghost use Rattle.std.specs.Prelude.{◌≡◌, ◌&&◌, ℕ, suc, ◌+◌, ◌-◌, ◌/◌, ◌^◌, ◌≤◌, ◌<◌, ltb, length, get_or};
 ghost use Rattle.std.specs.Int.Bits.{bit_or};
 ghost use Rattle.laws.specs.Choice.{pick};
@@ -14,7 +16,7 @@ pub const NO_RECORD: u16 = Release::MOST as u16;
 // What a partition holds before a tick: the ranks of the members that wait, a bit each; by rank, the member's oldest
 // record that has not started; the partition's first record that has not joined; the record that runs; its time left.
 // Where there is no such record, it is NO_RECORD.
-#[derive(Drop)]
+#[derive(Clone, Copy)]
 pub struct Machine {
     pub tick: u32,
     pub waiting: u32,

@@ -1,4 +1,6 @@
 // The text of the order form as an order: its lines are counted, read one by one, and written as the order's bytes.
+#![tactic(auto)]
+
 ghost use Rattle.std.specs.Prelude.{◌≡◌, ◌≤◌, length};
 ghost use Rattle.model.specs.Limits.{most_tasks};
 ghost use Rattle.form.specs.Text.{finished_lines, is_unfinished, line_count};
@@ -10,7 +12,7 @@ use typed::is_line_feed;
 use typed_line::{numbers_fit, take_line};
 
 // The lines taken: 50 and 51, and the table.
-#[derive(Drop)]
+#[derive(Clone, Copy)]
 pub struct LinesTaken {
     pub answer: Answer,
     pub table: [Task; Order::MOST_TASKS],

@@ -1,4 +1,6 @@
 // The text of an order, with a point and two decimals: its length is counted first, so that a refusal writes nothing.
+#![tactic(auto)]
+
 ghost use Rattle.std.specs.Prelude.{◌≡◌, ◌∷◌, ◌++◌, ◌+◌, ◌≤◌, length, drop};
 ghost use Rattle.model.specs.Limits.{most_tasks};
 ghost use Rattle.form.specs.Bytes.{semicolon};

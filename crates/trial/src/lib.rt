@@ -1,4 +1,6 @@
 // The tests of a partition's members, each from what is known of those above it; and the trial of a newcomer.
+#![tactic(auto)]
+
 ghost use Rattle.std.specs.Prelude.{◌≡◌, ℕ, ◌+◌, ◌-◌, ◌≤◌, ◌<◌, length};
 ghost use Rattle.laws.specs.Sums.{largest};
 ghost use Rattle.model.specs.Limits.{most_tasks};

@@ -1,4 +1,6 @@
 // What a buyer typed: bytes by their kind, strings of digits, and times of milliseconds.
+#![tactic(auto)]
+
 ghost use Rattle.std.specs.Prelude.{◌≡◌, true, false, suc, ◌+◌, ◌-◌, ◌*◌, ◌≤◌, length, get_or, drop};
 ghost use Rattle.laws.specs.Choice.{pick};
 ghost use Rattle.form.specs.Bytes.{zero_digit, IsDigit, is_digit, is_mark, is_line_feed};
@@ -10,7 +12,7 @@ ghost use Rattle.typed.specs.Taken.{ends_at, TakesDigits, TakesDecimals, TakesFo
 use model::smaller;
 
 // "Each byte is decided by its range: digit, comma or point, semicolon, line feed, anything else."
-#[derive(Drop)]
+#[derive(Clone, Copy)]
 pub enum Kind {
     Digit,
     Mark,
@@ -23,14 +25,14 @@ pub enum Kind {
 pub const MOST_TYPED: u32 = 1_048_575;
 
 // Digits taken: their value, or one more than the largest where it is over, and what stands behind them.
-#[derive(Drop)]
+#[derive(Clone, Copy)]
 pub struct DigitsTaken {
     pub value: u32,
     pub next: usize,
 }
 
 // A field taken: whether it has its shape and its end, its value, and where the next one begins.
-#[derive(Drop)]
+#[derive(Clone, Copy)]
 pub struct FieldTaken {
     pub good: bool,
     pub value: u32,

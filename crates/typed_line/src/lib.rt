@@ -1,4 +1,6 @@
 // A line of the order form: `m;T;D;C` and a line feed.
+#![tactic(auto)]
+
 ghost use Rattle.std.specs.Prelude.{◌≡◌, false, ◌≤◌, length, drop};
 ghost use Rattle.form.specs.Lines.{numbers_fit};
 ghost use Rattle.typed_line.specs.Taken.{TakesLine};
@@ -7,7 +9,7 @@ use model::Task;
 use typed::{MOST_TYPED, take_number, take_time};
 
 // A line taken: whether it has its shape and its line feed, the task that is typed, and where the next line begins.
-#[derive(Drop)]
+#[derive(Clone, Copy)]
 pub struct LineTaken {
     pub shaped: bool,
     pub task: Task,

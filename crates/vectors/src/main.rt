@@ -1,4 +1,6 @@
 // Runs cases that the second program wrote: a line each with the answer, and all that the output then holds.
+#![tactic(auto)]
+
 ghost use Rattle.std.specs.Prelude.{◌≤◌};
 ghost use Rattle.io.specs.Counts.{IsPrefixLen};
 

@@ -1,4 +1,6 @@
 // The test of one member, over its row and those of the higher members before it.
+#![tactic(auto)]
+
 ghost use Rattle.std.specs.Prelude.{◌≡◌, false, ◌+◌, ◌-◌, ◌≤◌, min, ltb};
 ghost use Rattle.asked.specs.Rows.{RowsFit, row_task, asked_by, whole};
 ghost use Rattle.asked.specs.Lines.{line_in};
@@ -10,7 +12,7 @@ use model::Task;
 use search::Found;
 
 // Whether the member passes; its worst response, 0 if it does not; and a tick before which its window does not close.
-#[derive(Drop)]
+#[derive(Clone, Copy)]
 pub struct Tested {
     pub passes: bool,
     pub worst: u32,

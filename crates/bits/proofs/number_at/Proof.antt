@@ -10,61 +10,48 @@ use Rattle.bits.proofs.Field.{field_none, field_under, field_bytes_more}
 use Rattle.bits.proofs.number_at.Statement.{statement}
 use Rattle.bits.proofs.number_at.Tie as tie
 
-abbrev invariant-loop : tie.invariant-loop
-invariant-loop s from count number₀ i₀ number i = (i ≤ count) × (number ≡ field s (8 * from) (8 * i))
+abbrev invariant-loop-i : tie.invariant-loop-i
+invariant-loop-i s from count number₀ i₀ number i = (i ≤ count) × (number ≡ field s (8 * from) (8 * i))
 
-abbrev decreases-loop : tie.decreases-loop
-decreases-loop s from count number₀ i₀ number i = count - i
+abbrev decreases-loop-i : tie.decreases-loop-i
+decreases-loop-i s from count number₀ i₀ number i = count - i
 
-abbrev S : tie.In-loop invariant-loop decreases-loop → List ℕ
-S c = c.before.before.before.args.s.now
+abbrev S : tie.In-loop-i invariant-loop-i decreases-loop-i → List ℕ
+S c = c.args.s.now
 
-small : (c : tie.In-loop invariant-loop decreases-loop) → c.before.loop.number < 72_057_594_037_927_936
-small c = rw c.before.loop.invariant.1 (field_under (S c) _ _ 56 (omega arith))
+small : (c : tie.In-loop-i invariant-loop-i decreases-loop-i) → c.loop-i.number < 72_057_594_037_927_936
+small c = rw c.loop-i.invariant.1 (field_under (S c) _ _ 56 (omega arith))
 
-loop-holds : tie.Need-loop-init invariant-loop decreases-loop
-loop-holds c = (search rules, sym (field_none _ _))
+loop-i-init : tie.Need-loop-i-init invariant-loop-i decreases-loop-i
+loop-i-init c = (search rules, sym (field_none _ _))
 
-mul-number : tie.Need-overflow-mul-number invariant-loop decreases-loop
-mul-number c = omega (arith, small c)
+overflow_mul-number : tie.Need-overflow_mul-number invariant-loop-i decreases-loop-i
+overflow_mul-number c = omega (arith, small c)
 
-add-byte-at : tie.Need-overflow-add-byte-at invariant-loop decreases-loop
-add-byte-at c = search rules
+overflow_add-from : tie.Need-overflow_add-from invariant-loop-i decreases-loop-i
+overflow_add-from c = search rules
 
-byte-at-requires : tie.Need-byte-at-requires invariant-loop decreases-loop
-byte-at-requires c κs = search rules
+byte_at-requires : tie.Need-byte_at-requires invariant-loop-i decreases-loop-i
+byte_at-requires c κs = search rules
 
-add-number : tie.Need-overflow-add-number invariant-loop decreases-loop
-add-number c = omega (arith, small c.before)
+overflow_add-number : tie.Need-overflow_add-number invariant-loop-i decreases-loop-i
+overflow_add-number c = omega (arith, small c.before)
 
-add-i : tie.Need-overflow-add-i invariant-loop decreases-loop
-add-i c = search rules
+overflow_add-i : tie.Need-overflow_add-i invariant-loop-i decreases-loop-i
+overflow_add-i c = search rules
 
-loop-less : tie.Need-loop-smaller invariant-loop decreases-loop
-loop-less c = search rules
+loop-i-smaller : tie.Need-loop-i-smaller invariant-loop-i decreases-loop-i
+loop-i-smaller c = search rules
 
-loop-again : tie.Need-loop-preserved invariant-loop decreases-loop
-loop-again c =
-    let byte : get_or (S c.before) (c.before.before.before.before.args.from + c.before.before.loop.i) 0 < 256 = omega arith in
+loop-i-preserved : tie.Need-loop-i-preserved invariant-loop-i decreases-loop-i
+loop-i-preserved c =
+    let byte : get_or (S c.before) (c.args.from + c.loop-i.i) 0 < 256 = omega arith in
     (search rules, cc (field_bytes_more (S c.before) _ _ byte))
 
-returns : tie.Need-returns invariant-loop decreases-loop
+returns : tie.Need-returns invariant-loop-i decreases-loop-i
 returns c =
-    let all : c.before.loop.i ≡ c.before.before.before.args.count = le_antisymm c.before.loop.invariant.0 c.loop-test.false in
-    c.before.loop.invariant.1 ∙ rw all
+    let all : c.loop-i.i ≡ c.args.count = le_antisymm c.loop-i.invariant.0 c.loop-i-test.false in
+    c.loop-i.invariant.1 ∙ rw all
 
-pub number-at-spec : {M : Type 1} → statement M
-number-at-spec =
-    tie.close
-    (tie.spec
-    invariant-loop
-    decreases-loop
-    loop-holds
-    mul-number
-    add-byte-at
-    byte-at-requires
-    add-number
-    add-i
-    loop-less
-    loop-again
-    returns)
+pub number_at_spec : {M : Type 1} → statement M
+number_at_spec = tie.close (tie.spec invariant-loop-i decreases-loop-i loop-i-init overflow_mul-number overflow_add-from byte_at-requires overflow_add-number overflow_add-i loop-i-smaller loop-i-preserved returns)

@@ -1,0 +1,5 @@
+use borrow.Author.Rules.{rules}
+use Rattle.model.proofs.order.Order.empty.Goals as goal
+
+pub returns : goal.returns
+returns c = cc
