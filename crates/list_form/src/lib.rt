@@ -1,3 +1,2 @@
 // What a list of processors is, byte by byte, and the laws of it; no code.
 #![tactic(auto)]
-

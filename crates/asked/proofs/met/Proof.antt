@@ -8,173 +8,116 @@ use Rattle.asked.proofs.Rows.{asked_most}
 use Rattle.asked.proofs.Seeking.{Seeking, seeking, unmet_on, here, past, next_later}
 use Rattle.asked.proofs.met.Statement.{statement}
 use Rattle.asked.proofs.met.Tie as tie
-use Rattle.asked.proofs.met.Reads as reads
-use Rattle.asked.proofs.met.Lts as lts
-use Rattle.asked.proofs.further.Reads as further-reads
-use Rattle.asked.proofs.go_ahead.Reads as go-ahead-reads
-use Rattle.asked.proofs.steps.begin.Reads as begin-reads
-use Rattle.asked.proofs.steps.go_on.Reads as go-on-reads
-use Rattle.asked.proofs.unless_past.Reads as unless-past-reads
-use Rattle.model.proofs.wide.Reads as wide-reads
 
-abbrev invariant-loop : tie.invariant-loop
-invariant-loop rows count base from limit due₀ all₀ next₀ w₀ pace₀ due all next w pace = Seeking rows count base due all next w × (pace.waited ≤ 15)
+abbrev invariant-loop-w : tie.invariant-loop-w
+invariant-loop-w rows count base from limit due₀ all₀ next₀ w₀ pace₀ due all next w pace = Seeking rows count base due all next w × (pace.waited ≤ 15)
 
-abbrev decreases-loop : tie.decreases-loop
-decreases-loop rows count base from limit due₀ all₀ next₀ w₀ pace₀ due all next w pace = limit + 1 - w
+abbrev decreases-loop-w : tie.decreases-loop-w
+decreases-loop-w rows count base from limit due₀ all₀ next₀ w₀ pace₀ due all next w pace = limit + 1 - w
 
--- src/lib.rt:115:9
-begin-requires : tie.Need-begin-requires invariant-loop decreases-loop
-begin-requires c κs = (c.before.requires.0, c.before.requires.2, refl)
+begin-begun-requires : tie.Need-begin-begun-requires invariant-loop-w decreases-loop-w
+begin-begun-requires c κs = (c.requires.0, c.requires.2, refl)
 
--- src/lib.rt:124:5
-loop-holds : tie.Need-loop-init invariant-loop decreases-loop
-loop-holds c =
-    let a = c.before.before.args in
-    (seeking a.rows.now a.count a.base c.begin.new.1.1.1.0 _ c.begin.result.all c.begin.result.next a.from c.before.before.requires.0.few refl c.before.before.requires.4 c.begin.ensures.0 c.begin.ensures.1.0 c.begin.ensures.1.1, omega arith)
+loop-w-init : tie.Need-loop-w-init invariant-loop-w decreases-loop-w
+loop-w-init c =
+    let a = c.args in
+    (seeking a.rows.now a.count a.base c.begin-begun.new.due _ c.begin-begun.result.all c.begin-begun.result.next a.from c.requires.0.few refl c.requires.4 c.begin-begun.ensures.0 c.begin-begun.ensures.1.0 c.begin-begun.ensures.1.1, omega arith)
 
-all_small : (c : tie.In-loop invariant-loop decreases-loop) → c.before.loop.all ≤ 90_000_000_000_000
+all_small : (c : tie.In-loop-w invariant-loop-w decreases-loop-w) → c.loop-w.all ≤ 90_000_000_000_000
 all_small c =
-    let start = c.before.before.before.before in
-    let a = start.args in
-    omega (arith, c.before.loop.invariant.0.asked, asked_most a.rows.now a.count start.requires.0 c.before.loop.w (omega (arith, c.loop-test.true, start.requires.3)), start.requires.0.few)
+    let a = c.args in
+    omega (arith, c.loop-w.invariant.0.asked, asked_most a.rows.now a.count c.requires.0 c.loop-w.w (omega (arith, c.loop-w-test.true, c.requires.3)), c.requires.0.few)
 
--- src/lib.rt:125:26
-add-further : tie.Need-overflow-add-further invariant-loop decreases-loop
-add-further c = record { fits = omega (arith, all_small c, c.before.before.before.before.requires.1) }
+overflow_add-base : tie.Need-overflow_add-base invariant-loop-w decreases-loop-w
+overflow_add-base c = record { fits = omega (arith, all_small c, c.requires.1) }
 
--- src/lib.rt:125:38
-wide-requires : tie.Need-wide-requires invariant-loop decreases-loop
+wide-requires : tie.Need-wide-requires invariant-loop-w decreases-loop-w
 wide-requires c κs = search rules
 
--- src/lib.rt:125:38
-add-further-2 : tie.Need-overflow-add-further-2 invariant-loop decreases-loop
-add-further-2 c = search rules
+overflow_add-wide : tie.Need-overflow_add-wide invariant-loop-w decreases-loop-w
+overflow_add-wide c = search rules
 
--- src/lib.rt:125:18
-further-requires : tie.Need-further-requires invariant-loop decreases-loop
-further-requires c κs = search rules
+further-on-requires : tie.Need-further-on-requires invariant-loop-w decreases-loop-w
+further-on-requires c κs = search rules
 
--- src/lib.rt:125:18
-sub-on : tie.Need-overflow-sub-on invariant-loop decreases-loop
-sub-on c = omega (arith, c.further.ensures)
+overflow_sub-on : tie.Need-overflow_sub-on invariant-loop-w decreases-loop-w
+overflow_sub-on c = omega (arith, c.further-on.ensures)
 
 -- the tick at which what is asked now would be met
-on-is : (c : tie.After-further invariant-loop decreases-loop) → c.further.result - 1 ≡ max (c.before.before.before.before.before.before.args.base + c.before.before.before.loop.all) (c.before.before.before.loop.w + 1) - 1
-on-is c = ap (λ (x : ℕ). x - 1) (c.further.ensures ∙ ap (λ (x : ℕ). max (c.before.before.before.before.before.before.args.base + c.before.before.before.loop.all) (x + 1)) c.before.wide.ensures)
 
-unmet-then : (c : tie.After-further invariant-loop decreases-loop) → UnmetBelow (asked_by c.before.before.before.before.before.before.args.rows.now c.before.before.before.before.before.before.args.count) c.before.before.before.before.before.before.args.base (c.further.result - 1)
-unmet-then c = rw (on-is c) (unmet_on c.before.before.before.before.before.before.args.rows.now c.before.before.before.before.before.before.args.count c.before.before.before.before.before.before.args.base c.before.before.before.before.before.before.requires.0 c.before.before.before.loop.due c.before.before.before.loop.all c.before.before.before.loop.next c.before.before.before.loop.w c.before.before.before.loop.invariant.0)
+on-is : (c : tie.After-further-on invariant-loop-w decreases-loop-w) → c.further-on.result - 1 ≡ max (c.args.base + c.loop-w.all) (c.loop-w.w + 1) - 1
+on-is c = ap (λ (x : ℕ). x - 1) (c.further-on.ensures ∙ ap (λ (x : ℕ). max (c.args.base + c.loop-w.all) (x + 1)) c.wide.ensures)
 
--- src/lib.rt:126:17
-wide-requires-2 : tie.Need-wide-requires-2 invariant-loop decreases-loop
-wide-requires-2 c κs = search rules
+unmet-then : (c : tie.After-further-on invariant-loop-w decreases-loop-w) → UnmetBelow (asked_by c.args.rows.now c.args.count) c.args.base (c.further-on.result - 1)
+unmet-then c = rw (on-is c) (unmet_on c.args.rows.now c.args.count c.args.base c.requires.0 c.loop-w.due c.loop-w.all c.loop-w.next c.loop-w.w c.loop-w.invariant.0)
 
--- src/lib.rt:127:13
-unless-past-requires : tie.Need-unless-past-requires invariant-loop decreases-loop
-unless-past-requires c κs = search rules
+wide-requires-in-loop-w : tie.Need-wide-requires-in-loop-w invariant-loop-w decreases-loop-w
+wide-requires-in-loop-w c κs = search rules
 
--- src/lib.rt:127:13
-returns : tie.Need-returns invariant-loop decreases-loop
-returns c =
-    let a = c.before.before.before.before.before.before.before.before.before.args in
-    here c.before.before.before.before.before.before.before.before.before.args.rows.now c.before.before.before.before.before.before.before.before.before.args.count c.before.before.before.before.before.before.before.before.before.args.base c.before.before.before.before.before.before.before.before.before.requires.0 c.before.before.before.before.before.before.loop.due c.before.before.before.before.before.before.loop.all c.before.before.before.before.before.before.loop.next c.before.before.before.before.before.before.loop.w c.before.before.before.before.before.before.loop.invariant.0 a.limit (omega (arith, c.before.if1.true, c.before.before.wide2.ensures, on-is c.before.before.before)) c.unless-past.result (rw (sym (on-is c.before.before.before)) c.unless-past.ensures)
+unless_past-requires : tie.Need-unless_past-requires invariant-loop-w decreases-loop-w
+unless_past-requires c κs = search rules
 
--- src/lib.rt:129:13
-go-ahead-requires : tie.Need-go-ahead-requires invariant-loop decreases-loop
-go-ahead-requires c κs = (c.before.before.before.before.before.before.before.before.requires.0, c.before.before.before.before.before.before.before.before.requires.1, omega (arith, c.before.before.before.before.loop-test.true, c.before.before.before.before.before.before.before.before.requires.3), omega (arith, on-is c.before.before), c.before.before.before.before.before.loop.invariant.1, unmet-then c.before.before)
+returns-then-on-wide : tie.Need-returns-then-on-wide invariant-loop-w decreases-loop-w
+returns-then-on-wide c =
+    let a = c.args in
+    here c.args.rows.now c.args.count c.args.base c.requires.0 c.loop-w.due c.loop-w.all c.loop-w.next c.loop-w.w c.loop-w.invariant.0 a.limit (omega (arith, c.if-on-wide.true, c.wide-in-loop-w.ensures, on-is c.before.before.before)) c.unless_past.result (rw (sym (on-is c.before.before.before)) c.unless_past.ensures)
 
--- src/lib.rt:130:12
-wide-requires-3 : tie.Need-wide-requires-3 invariant-loop decreases-loop
-wide-requires-3 c κs = search rules
+go_ahead-onward-requires : tie.Need-go_ahead-onward-requires invariant-loop-w decreases-loop-w
+go_ahead-onward-requires c κs = (c.requires.0, c.requires.1, omega (arith, c.loop-w-test.true, c.requires.3), omega (arith, on-is c.before.before), c.loop-w.invariant.1, unmet-then c.before.before)
 
--- src/lib.rt:131:13
-unless-past-requires-2 : tie.Need-unless-past-requires-2 invariant-loop decreases-loop
-unless-past-requires-2 c κs = search rules
+wide-requires-in-loop-w-2 : tie.Need-wide-requires-in-loop-w-2 invariant-loop-w decreases-loop-w
+wide-requires-in-loop-w-2 c κs = search rules
 
--- src/lib.rt:131:13
-returns-2 : tie.Need-returns-2 invariant-loop decreases-loop
-returns-2 c =
-    let a = c.before.before.before.before.before.before.before.before.before.before.before.before.before.args in
-    past (asked_by a.rows.now a.count) a.base a.limit c.before.before.before.before.go-ahead.result.to c.before.before.before.before.before.before.before.before.before.before.loop.next (omega (arith, c.before.if2.true, c.before.before.before.wide3.ensures)) c.before.before.before.before.go-ahead.ensures.1 c.unless-past2.result c.unless-past2.ensures
+unless_past-requires-then-wide-onward : tie.Need-unless_past-requires-then-wide-onward invariant-loop-w decreases-loop-w
+unless_past-requires-then-wide-onward c κs = search rules
+
+returns-then-wide-onward : tie.Need-returns-then-wide-onward invariant-loop-w decreases-loop-w
+returns-then-wide-onward c =
+    let a = c.args in
+    past (asked_by a.rows.now a.count) a.base a.limit c.go_ahead-onward.result.to c.loop-w.next (omega (arith, c.if-wide-onward.true, c.wide-in-loop-w-2.ensures)) c.go_ahead-onward.ensures.1 c.unless_past-then-wide-onward.result c.unless_past-then-wide-onward.ensures
 
 -- the search goes on past w, within the limit
-goes_on_lem : (c : tie.Else2 invariant-loop decreases-loop) → (c.before.before.before.before.before.before.before.before.before.loop.w < c.before.before.before.go-ahead.result.to) × (c.before.before.before.go-ahead.result.to ≤ c.before.before.before.before.before.before.before.before.before.before.before.before.args.limit) × (c.before.before.before.go-ahead.result.to ≤ 2_000_000)
+
+goes_on_lem : (c : tie.Else-wide-onward invariant-loop-w decreases-loop-w) → (c.loop-w.w < c.go_ahead-onward.result.to) × (c.go_ahead-onward.result.to ≤ c.args.limit) × (c.go_ahead-onward.result.to ≤ 2_000_000)
 goes_on_lem c =
-    let later = next_later c.before.before.before.before.before.before.before.before.before.before.before.before.args.rows.now c.before.before.before.before.before.before.before.before.before.before.before.before.args.count c.before.before.before.before.before.before.before.before.before.before.before.before.args.base c.before.before.before.before.before.before.before.before.before.before.before.before.requires.0 c.before.before.before.before.before.before.before.before.before.loop.due c.before.before.before.before.before.before.before.before.before.loop.all c.before.before.before.before.before.before.before.before.before.loop.next c.before.before.before.before.before.before.before.before.before.loop.w c.before.before.before.before.before.before.before.before.before.loop.invariant.0 (omega (arith, c.before.before.before.before.before.before.before.before.loop-test.true, c.before.before.before.before.before.before.before.before.before.before.before.before.requires.3)) in
-    let limit : c.before.before.before.go-ahead.result.to ≤ c.before.before.before.before.before.before.before.before.before.before.before.before.args.limit = omega (arith, c.if2.false, c.before.before.wide3.ensures) in
-    (omega (arith, later, c.before.before.before.before.if1.false, c.before.before.before.before.before.wide2.ensures, c.before.before.before.go-ahead.ensures.0), limit, omega (arith, c.before.before.before.before.before.before.before.before.before.before.before.before.requires.3))
+    let later = next_later c.args.rows.now c.args.count c.args.base c.requires.0 c.loop-w.due c.loop-w.all c.loop-w.next c.loop-w.w c.loop-w.invariant.0 (omega (arith, c.loop-w-test.true, c.requires.3)) in
+    let limit : c.go_ahead-onward.result.to ≤ c.args.limit = omega (arith, c.if-wide-onward.false, c.wide-in-loop-w-2.ensures) in
+    (omega (arith, later, c.if-on-wide.false, c.wide-in-loop-w.ensures, c.go_ahead-onward.ensures.0), limit, omega (arith, c.requires.3))
 
--- src/lib.rt:133:18
-cast-to : tie.Need-overflow-cast-to invariant-loop decreases-loop
-cast-to c = record { fits = omega (arith, goes_on_lem c.before) }
+overflow_cast-to : tie.Need-overflow_cast-to invariant-loop-w decreases-loop-w
+overflow_cast-to c = record { fits = omega (arith, goes_on_lem c.before) }
 
--- src/lib.rt:134:13
-go-on-requires : tie.Need-go-on-requires invariant-loop decreases-loop
-go-on-requires c κs =
-    let at = c.before.before.before.before.before.before.before.before.before.before.before.loop.invariant.0 in
-    (c.before.before.before.before.before.before.before.before.before.before.before.before.before.before.requires.0, omega (arith, goes_on_lem c.before.before), record { earlier = c.before.before.before.before.before.before.before.before.before.before.before.loop.w; before = omega (arith, goes_on_lem c.before.before); asked = at.asked; places = at.places; dues = at.dues })
+go_on-step-requires : tie.Need-go_on-step-requires invariant-loop-w decreases-loop-w
+go_on-step-requires c κs =
+    let at = c.loop-w.invariant.0 in
+    (c.requires.0, omega (arith, goes_on_lem c.before.before), record { earlier = c.loop-w.w; before = omega (arith, goes_on_lem c.before.before); asked = at.asked; places = at.places; dues = at.dues })
 
--- src/lib.rt:136:25
-sub-t23 : tie.Need-overflow-sub-t23 invariant-loop decreases-loop
-sub-t23 c = omega (arith, goes_on_lem c.before.before.before)
+overflow_sub-pace : tie.Need-overflow_sub-pace invariant-loop-w decreases-loop-w
+overflow_sub-pace c = omega (arith, goes_on_lem c.before.before.before)
 
--- src/lib.rt:136:20
-mul-t24 : tie.Need-overflow-mul-t24 invariant-loop decreases-loop
-mul-t24 c = record { fits = omega (arith, goes_on_lem c.before.before.before) }
+overflow_mul-pace : tie.Need-overflow_mul-pace invariant-loop-w decreases-loop-w
+overflow_mul-pace c = record { fits = omega (arith, goes_on_lem c.before.before.before) }
 
--- src/lib.rt:124:5
-loop-less : tie.Need-loop-smaller invariant-loop decreases-loop
-loop-less c = omega (arith, goes_on_lem c.before.before.before)
+loop-w-smaller : tie.Need-loop-w-smaller invariant-loop-w decreases-loop-w
+loop-w-smaller c = omega (arith, goes_on_lem c.before.before.before)
 
--- src/lib.rt:124:5
-loop-again : tie.Need-loop-preserved invariant-loop decreases-loop
-loop-again c =
-    let a = c.before.before.before.before.before.before.before.before.before.before.before.before.before.before.before.args in (
-      seeking a.rows.now a.count a.base c.go_on.new.1.1.1.1.0 c.before.before.before.before.before.before.before.before.before.before.before.before.loop.due c.go_on.result.all c.go_on.result.next c.before.before.before.before.before.before.go-ahead.result.to c.before.before.before.before.before.before.before.before.before.before.before.before.before.before.before.requires.0.few c.before.before.before.before.before.before.before.before.before.before.before.before.loop.invariant.0.places c.before.before.before.before.before.before.go-ahead.ensures.1 c.go_on.ensures.0 c.go_on.ensures.1.0 c.go_on.ensures.1.1,
-      c.before.before.before.before.before.before.go-ahead.ensures.2,
+loop-w-preserved : tie.Need-loop-w-preserved invariant-loop-w decreases-loop-w
+loop-w-preserved c =
+    let a = c.args in (
+      seeking a.rows.now a.count a.base c.go_on-step.new.due c.loop-w.due c.go_on-step.result.all c.go_on-step.result.next c.go_ahead-onward.result.to c.requires.0.few c.loop-w.invariant.0.places c.go_ahead-onward.ensures.1 c.go_on-step.ensures.0 c.go_on-step.ensures.1.0 c.go_on-step.ensures.1.1,
+      c.go_ahead-onward.ensures.2,
     )
 
--- src/lib.rt:144:17
-wide-requires-4 : tie.Need-wide-requires-4 invariant-loop decreases-loop
-wide-requires-4 c κs = search rules
+wide-requires-2 : tie.Need-wide-requires-2 invariant-loop-w decreases-loop-w
+wide-requires-2 c κs = search rules
 
--- src/lib.rt:144:5
-unless-past-requires-3 : tie.Need-unless-past-requires-3 invariant-loop decreases-loop
-unless-past-requires-3 c κs = search rules
+unless_past-requires-2 : tie.Need-unless_past-requires-2 invariant-loop-w decreases-loop-w
+unless_past-requires-2 c κs = search rules
 
--- src/lib.rt:109:1
-returns-3 : tie.Need-returns-3 invariant-loop decreases-loop
-returns-3 c =
-    let a = c.before.before.before.before.before.before.args in
-    past (asked_by a.rows.now a.count) a.base a.limit c.before.before.before.loop.w c.before.before.before.loop.next c.before.before.loop-test.false c.before.before.before.loop.invariant.0.unmet c.unless-past3.result (rw (sym c.before.wide4.ensures) c.unless-past3.ensures)
+returns : tie.Need-returns invariant-loop-w decreases-loop-w
+returns c =
+    let a = c.args in
+    past (asked_by a.rows.now a.count) a.base a.limit c.loop-w.w c.loop-w.next c.loop-w-test.false c.loop-w.invariant.0.unmet c.unless_past-2.result (rw (sym c.wide-2.ensures) c.unless_past-2.ensures)
 
-pub met-spec : {M : Type 1} → statement M
-met-spec =
-    tie.close
-    (tie.spec
-    invariant-loop
-    decreases-loop
-    begin-requires
-    loop-holds
-    add-further
-    wide-requires
-    add-further-2
-    further-requires
-    sub-on
-    wide-requires-2
-    unless-past-requires
-    returns
-    go-ahead-requires
-    wide-requires-3
-    unless-past-requires-2
-    returns-2
-    cast-to
-    go-on-requires
-    sub-t23
-    mul-t24
-    loop-less
-    loop-again
-    wide-requires-4
-    unless-past-requires-3
-    returns-3)
+pub met_spec : {M : Type 1} → statement M
+met_spec = tie.close (tie.spec invariant-loop-w decreases-loop-w begin-begun-requires loop-w-init overflow_add-base wide-requires overflow_add-wide further-on-requires overflow_sub-on wide-requires-in-loop-w unless_past-requires returns-then-on-wide go_ahead-onward-requires wide-requires-in-loop-w-2 unless_past-requires-then-wide-onward returns-then-wide-onward overflow_cast-to go_on-step-requires overflow_sub-pace overflow_mul-pace loop-w-smaller loop-w-preserved wide-requires-2 unless_past-requires-2 returns)

@@ -15,33 +15,34 @@ use Rattle.build.proofs.take_build.Statement.{statement}
 use Rattle.build.proofs.take_build.Tie as tie
 
 -- the build that was taken is the one that stands in the bytes
+
 build-same : (s : List ℕ) (h : BuildHeader) (places : List Partition) (members : List Member) → h ≡ build_header_of s →
     places ≡ filled (partition_at s) zero_partition most_partitions h.partitions → members ≡ filled (member_at s h.partitions) zero_member most_tasks h.tasks →
     record { processors = h.processors; tasks = h.tasks; partitions = h.partitions; places = places; members = members } ≡ build_at s
 unfolding build_at
 build-same s h places members e p m = rw (p, m, e)
 
-both-clear : (c : tie.Joined1) → let a = c.before.before.before.before.before.before.args in let h = a.header in
-    c.if1.clear ≡ (partitions_clear a.build.now h.partitions && members_clear a.build.now h.partitions h.tasks)
+both-clear : (c : tie.Joined-places) → let a = c.args in let h = a.header in
+    c.if-places.clear ≡ (partitions_clear a.build.now h.partitions && members_clear a.build.now h.partitions h.tasks)
 both-clear c =
-    let m = c.before.take-members in
-    let p = c.before.before.before.take_places in
+    let m = c.take_members-members in
+    let p = c.take_places-places in
     ⊎_elim
     (λ w. rw (sym p.ensures.0 ∙ w.0.taken) (w.1 ∙ m.ensures.0))
     (λ w. rw (sym p.ensures.0 ∙ w.0.left) w.1)
-    c.if1.branch
+    c.if-places.branch
 
-cast-partitions : tie.Need-overflow-cast-partitions
-cast-partitions c = search rules
+overflow_cast-partitions : tie.Need-overflow_cast-partitions
+overflow_cast-partitions c = search rules
 
-take-places-requires : tie.Need-take-places-requires
-take-places-requires c κs = search rules
+take_places-places-requires : tie.Need-take_places-places-requires
+take_places-places-requires c κs = search rules
 
-cast-take-members : tie.Need-overflow-cast-take-members
-cast-take-members c = search rules
+overflow_cast-header : tie.Need-overflow_cast-header
+overflow_cast-header c = search rules
 
-take-members-requires : tie.Need-take-members-requires
-take-members-requires c κs = search rules
+take_members-members-requires : tie.Need-take_members-members-requires
+take_members-members-requires c κs = search rules
 
 returns : tie.Need-returns
 returns c =
@@ -50,10 +51,8 @@ returns c =
     let a = p.before.before.before in
     let s = a.args.build.now in (
       both-clear j ∙ ap (λ (h : BuildHeader). partitions_clear s h.partitions && members_clear s h.partitions h.tasks) a.requires.0,
-      build-same s a.args.header _ _ a.requires.0 p.take_places.ensures.1 j.before.take-members.ensures.1,
+      build-same s a.args.header _ _ a.requires.0 p.take_places-places.ensures.1 j.take_members-members.ensures.1,
     )
 
-pub take-build-spec : {M : Type 1} → statement M
-take-build-spec =
-    tie.close
-    (tie.spec cast-partitions take-places-requires cast-take-members take-members-requires returns)
+pub take_build_spec : {M : Type 1} → statement M
+take_build_spec = tie.close (tie.spec overflow_cast-partitions take_places-places-requires overflow_cast-header take_members-members-requires returns)

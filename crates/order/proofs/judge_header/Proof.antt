@@ -12,96 +12,69 @@ use Rattle.order.proofs.judge_header.Statement.{statement}
 use Rattle.order.proofs.judge_header.Tie as tie
 
 -- the rules passed at each place
-long : (c : tie.Else1) → leb 3 c.before.args.size ≡ true
-long c = le-leb _ _ c.if1.false
 
-version-right : (c : tie.Else2) → eqb c.before.before.before.args.header.version 1 ≡ true
-version-right c = eq-eqb _ _ c.if2.false
+long : (c : tie.Else-size-lt-HEADER_BYTES) → leb 3 c.args.size ≡ true
+long c = le-leb _ _ c.if-size-lt-HEADER_BYTES.false
 
-processors-in : (c : tie.Else3) → in_range 1 most_processors c.before.before.before.before.before.args.header.processors ≡ true
-processors-in c = sym c.before.within.ensures ∙ not-false _ c.if3.false
+version-right : (c : tie.Else-header-ne1) → eqb c.args.header.version 1 ≡ true
+version-right c = eq-eqb _ _ c.if-header-ne1.false
 
-tasks-in : (c : tie.Else4) → in_range 1 most_tasks c.before.before.before.before.before.before.before.args.header.tasks ≡ true
-tasks-in c = sym c.before.within2.ensures ∙ not-false _ c.if4.false
+processors-in : (c : tie.Else-not-within) → in_range 1 most_processors c.args.header.processors ≡ true
+processors-in c = sym c.within.ensures ∙ c.if-not-within.false
 
-size_right : (c : tie.Else5) → let a = c.before.before.before.before.before.before.before.before.before.before.args in eqb a.size (order_length 1 a.header.tasks) ≡ true
-size_right c = eq-eqb _ _ (c.if5.false ∙ c.before.bytes.ensures)
+tasks-in : (c : tie.Else-not-within-2) → in_range 1 most_tasks c.args.header.tasks ≡ true
+tasks-in c = sym c.within-2.ensures ∙ c.if-not-within-2.false
 
-returns : tie.Need-returns
+size_right : (c : tie.Else-size-bytes) → let a = c.args in eqb a.size (order_length 1 a.header.tasks) ≡ true
+size_right c = eq-eqb _ _ (c.if-size-bytes.false ∙ c.bytes.ensures)
+
+returns-then-size-lt-HEADER_BYTES : tie.Need-returns-then-size-lt-HEADER_BYTES
 unfolding first_broken header_rules
-returns c = simp (lt-leb _ _ c.if1.true)
+returns-then-size-lt-HEADER_BYTES c = simp (lt-leb _ _ c.if-size-lt-HEADER_BYTES.true)
 
-returns-2 : tie.Need-returns-2
+returns-then-header-ne1 : tie.Need-returns-then-header-ne1
 unfolding first_broken header_rules
-returns-2 c = simp (long c.before.before, ne_eqb _ _ c.if2.true)
+returns-then-header-ne1 c = simp (long c.before.before, ne_eqb _ _ c.if-header-ne1.true)
 
 within-requires : tie.Need-within-requires
 within-requires c κs = search rules
 
-returns-3 : tie.Need-returns-3
+returns-then-not-within : tie.Need-returns-then-not-within
 unfolding first_broken header_rules
-returns-3 c =
-    let v = c.before.before in
-    simp (long v.before.before, version-right v, sym c.before.within.ensures ∙ not-true _ c.if3.true)
+returns-then-not-within c =
+    simp (long c.before.before.before.before, version-right c.before.before, sym c.within.ensures ∙ c.if-not-within.true)
 
-cast-within : tie.Need-overflow-cast-within
-cast-within c = search rules
+overflow_cast-within : tie.Need-overflow_cast-within
+overflow_cast-within c = search rules
 
 within-requires-2 : tie.Need-within-requires-2
 within-requires-2 c κs = search rules
 
-returns-4 : tie.Need-returns-4
+returns-then-not-within-2 : tie.Need-returns-then-not-within-2
 unfolding first_broken header_rules
-returns-4 c =
-    let p = c.before.before in
-    let v = p.before.before in
-    simp (long v.before.before, version-right v, processors-in p, sym c.before.within2.ensures ∙ not-true _ c.if4.true)
+returns-then-not-within-2 c =
+    simp (long c.before.before.before.before.before.before, version-right c.before.before.before.before, processors-in c.before.before, sym c.within-2.ensures ∙ c.if-not-within-2.true)
 
-cast-bytes : tie.Need-overflow-cast-bytes
-cast-bytes c = search rules
+overflow_cast-header : tie.Need-overflow_cast-header
+overflow_cast-header c = search rules
 
 bytes-requires : tie.Need-bytes-requires
 bytes-requires c κs = search rules
 
-returns-5 : tie.Need-returns-5
+returns-then-size-bytes : tie.Need-returns-then-size-bytes
 unfolding first_broken header_rules
-returns-5 c =
-    let t = c.before.before.before in
-    let p = t.before.before in
-    let v = p.before.before in
-    simp (long v.before.before, version-right v, processors-in p, tasks-in t, ne_eqb _ _ (λ e. c.if5.true (e ∙ sym c.before.bytes.ensures)))
+returns-then-size-bytes c =
+    simp (long c.before.before.before.before.before.before.before.before.before, version-right c.before.before.before.before.before.before.before, processors-in c.before.before.before.before.before, tasks-in c.before.before.before, ne_eqb _ _ (λ e. c.if-size-bytes.true (e ∙ sym c.bytes.ensures)))
 
-returns-6 : tie.Need-returns-6
+returns-then-header-ne0 : tie.Need-returns-then-header-ne0
 unfolding first_broken header_rules
-returns-6 c =
-    let z = c.before.before in
-    let t = z.before.before.before in
-    let p = t.before.before in
-    let v = p.before.before in
-    simp (long v.before.before, version-right v, processors-in p, tasks-in t, size_right z, ne_eqb _ _ c.if6.true)
+returns-then-header-ne0 c =
+    simp (long c.before.before.before.before.before.before.before.before.before.before.before, version-right c.before.before.before.before.before.before.before.before.before, processors-in c.before.before.before.before.before.before.before, tasks-in c.before.before.before.before.before, size_right c.before.before, ne_eqb _ _ c.if-header-ne0.true)
 
-returns-7 : tie.Need-returns-7
+returns : tie.Need-returns
 unfolding first_broken header_rules
-returns-7 c =
-    let z = c.before.before in
-    let t = z.before.before.before in
-    let p = t.before.before in
-    let v = p.before.before in
-    simp (long v.before.before, version-right v, processors-in p, tasks-in t, size_right z, eq-eqb _ _ c.if6.false)
+returns c =
+    simp (long c.before.before.before.before.before.before.before.before.before.before.before, version-right c.before.before.before.before.before.before.before.before.before, processors-in c.before.before.before.before.before.before.before, tasks-in c.before.before.before.before.before, size_right c.before.before, eq-eqb _ _ c.if-header-ne0.false)
 
-pub judge-header-spec : {M : Type 1} → statement M
-judge-header-spec =
-    tie.close
-    (tie.spec
-    returns
-    returns-2
-    within-requires
-    returns-3
-    cast-within
-    within-requires-2
-    returns-4
-    cast-bytes
-    bytes-requires
-    returns-5
-    returns-6
-    returns-7)
+pub judge_header_spec : {M : Type 1} → statement M
+judge_header_spec = tie.close (tie.spec returns-then-size-lt-HEADER_BYTES returns-then-header-ne1 within-requires returns-then-not-within overflow_cast-within within-requires-2 returns-then-not-within-2 overflow_cast-header bytes-requires returns-then-size-bytes returns-then-header-ne0 returns)

@@ -16,173 +16,117 @@ use Rattle.asked.proofs.Rows.{fit_fewer, asked_none, asked_more, asked_most, cos
 use Rattle.asked.proofs.Dues.{due_near}
 use Rattle.asked.proofs.steps.begin.Statement.{statement}
 use Rattle.asked.proofs.steps.begin.Tie as tie
-use Rattle.asked.proofs.steps.begin.Reads as reads
-use Rattle.asked.proofs.steps.begin.Lts as lts
-use Rattle.asked.proofs.steps.releases_by.Reads as releases-by-reads
-use Rattle.model.proofs.smaller.Reads as smaller-reads
-use Rattle.model.proofs.wide.Reads as wide-reads
 
-abbrev invariant-loop : tie.invariant-loop
-invariant-loop rows count w due₀ all₀ next₀ r₀ due all next r =
+abbrev invariant-loop-r : tie.invariant-loop-r
+invariant-loop-r rows count w due₀ all₀ next₀ r₀ due all next r =
     (r ≤ count) × (due ≡ overlaid (due_after rows w) r due₀) × (all ≡ asked_by rows r w) × (next ≡ least far (due_after rows w) r)
 
-abbrev decreases-loop : tie.decreases-loop
-decreases-loop rows count w due₀ all₀ next₀ r₀ due all next r = count - r
+abbrev decreases-loop-r : tie.decreases-loop-r
+decreases-loop-r rows count w due₀ all₀ next₀ r₀ due all next r = count - r
 
--- src/steps.rt:43:5
-loop-holds : tie.Need-loop-init invariant-loop decreases-loop
-loop-holds c = (omega arith, sym (overlaid_none (due_after c.args.rows.now c.args.w) c.args.due.now), sym (asked_none c.args.rows.now c.args.w), sym (least_none far (due_after c.args.rows.now c.args.w)))
+loop-r-init : tie.Need-loop-r-init invariant-loop-r decreases-loop-r
+loop-r-init c = (omega arith, sym (overlaid_none (due_after c.args.rows.now c.args.w) c.args.due.now), sym (asked_none c.args.rows.now c.args.w), sym (least_none far (due_after c.args.rows.now c.args.w)))
 
--- src/steps.rt:44:41
-add-releases-by : tie.Need-overflow-add-releases-by invariant-loop decreases-loop
-add-releases-by c = search rules
+overflow_add-r : tie.Need-overflow_add-r invariant-loop-r decreases-loop-r
+overflow_add-r c = search rules
 
--- src/steps.rt:44:36
-mul-releases-by : tie.Need-overflow-mul-releases-by invariant-loop decreases-loop
-mul-releases-by c = search rules
+offset_bounds-rows-r : tie.Need-offset_bounds-rows-r invariant-loop-r decreases-loop-r
+offset_bounds-rows-r c = search rules
 
--- src/steps.rt:44:36
-element-copy-out-releases-by : tie.Need-element-copy-out-releases-by invariant-loop decreases-loop
-element-copy-out-releases-by c = search rules
+bounds-rows-r : tie.Need-bounds-rows-r invariant-loop-r decreases-loop-r
+bounds-rows-r c = search rules
 
--- src/steps.rt:44:13
-releases-by-requires : tie.Need-releases-by-requires invariant-loop decreases-loop
-releases-by-requires c κs = ((c.before.before.before.requires.0.each c.before.before.loop.r c.before.loop-test.true).period_least, c.before.before.before.requires.1)
+releases_by-releases-requires : tie.Need-releases_by-releases-requires invariant-loop-r decreases-loop-r
+releases_by-releases-requires c κs = ((c.requires.0.each c.loop-r.r c.loop-r-test.true).period_least, c.requires.1)
 
--- src/steps.rt:45:36
-add-then : tie.Need-overflow-add-then invariant-loop decreases-loop
-add-then c = search rules
+overflow_add-then : tie.Need-overflow_add-then invariant-loop-r decreases-loop-r
+overflow_add-then c = search rules
 
--- src/steps.rt:45:31
-mul-then : tie.Need-overflow-mul-then invariant-loop decreases-loop
-mul-then c = search rules
+offset_bounds-rows-r-in-loop-r : tie.Need-offset_bounds-rows-r-in-loop-r invariant-loop-r decreases-loop-r
+offset_bounds-rows-r-in-loop-r c = search rules
 
--- src/steps.rt:45:31
-element-copy-out-then : tie.Need-element-copy-out-then invariant-loop decreases-loop
-element-copy-out-then c = search rules
+bounds-rows-r-in-loop-r : tie.Need-bounds-rows-r-in-loop-r invariant-loop-r decreases-loop-r
+bounds-rows-r-in-loop-r c = search rules
 
--- src/steps.rt:45:20
-mul-then-2 : tie.Need-overflow-mul-then-2 invariant-loop decreases-loop
-mul-then-2 c =
-    let a = c.before.before.before.before.before.args in
-    let r = c.before.before.before.before.loop.r in
-    let same : c.before.releases-by.result * word_at a.rows.now r 0 ≡ due_after a.rows.now a.w r = ap (λ (k : ℕ). k * word_at a.rows.now r 0) c.before.releases-by.ensures in
-    record { fits = omega (arith, same, due_near a.rows.now a.count c.before.before.before.before.before.requires.0 a.w r c.before.before.before.loop-test.true, c.before.before.before.before.before.requires.1) }
+overflow_mul-then : tie.Need-overflow_mul-then invariant-loop-r decreases-loop-r
+overflow_mul-then c =
+    let a = c.args in
+    let r = c.loop-r.r in
+    let same : c.releases_by-releases.result * word_at a.rows.now r 0 ≡ due_after a.rows.now a.w r = ap (λ (k : ℕ). k * word_at a.rows.now r 0) c.releases_by-releases.ensures in
+    record { fits = omega (arith, same, due_near a.rows.now a.count c.requires.0 a.w r c.loop-r-test.true, c.requires.1) }
 
--- src/steps.rt:46:21
-wide-requires : tie.Need-wide-requires invariant-loop decreases-loop
+wide-requires : tie.Need-wide-requires invariant-loop-r decreases-loop-r
 wide-requires c κs = search rules
 
--- src/steps.rt:46:62
-add_wide : tie.Need-overflow-add-wide invariant-loop decreases-loop
-add_wide c = search rules
+overflow_add-r-in-loop-r : tie.Need-overflow_add-r-in-loop-r invariant-loop-r decreases-loop-r
+overflow_add-r-in-loop-r c = search rules
 
--- src/steps.rt:46:57
-mul_wide : tie.Need-overflow-mul-wide invariant-loop decreases-loop
-mul_wide c = search rules
+offset_bounds-rows-r-in-loop-r-2 : tie.Need-offset_bounds-rows-r-in-loop-r-2 invariant-loop-r decreases-loop-r
+offset_bounds-rows-r-in-loop-r-2 c = search rules
 
--- src/steps.rt:46:57
-element-copy-out-wide : tie.Need-element-copy-out-wide invariant-loop decreases-loop
-element-copy-out-wide c = search rules
+bounds-rows-r-in-loop-r-2 : tie.Need-bounds-rows-r-in-loop-r-2 invariant-loop-r decreases-loop-r
+bounds-rows-r-in-loop-r-2 c = search rules
 
--- src/steps.rt:46:45
-wide-requires-2 : tie.Need-wide-requires-2 invariant-loop decreases-loop
-wide-requires-2 c κs = search rules
+wide-requires-in-loop-r : tie.Need-wide-requires-in-loop-r invariant-loop-r decreases-loop-r
+wide-requires-in-loop-r c κs = search rules
 
 -- the row's work, and all that is asked with it
-work-is : (c : tie.After-wide2 invariant-loop decreases-loop) → let a = c.before.before.before.before.before.before.before.before.args in
-    c.before.before.wide.result * c.wide2.result ≡ (a.w / word_at a.rows.now c.before.before.before.before.before.before.before.loop.r 0 + 1) * word_at a.rows.now c.before.before.before.before.before.before.before.loop.r 1
-work-is c = rw (c.before.before.wide.ensures, c.before.before.before.before.releases-by.ensures, c.wide2.ensures) refl
 
-all-is : (c : tie.After-wide2 invariant-loop decreases-loop) → let a = c.before.before.before.before.before.before.before.before.args in
-    c.before.before.before.before.before.before.before.loop.all + c.before.before.wide.result * c.wide2.result ≡ asked_by a.rows.now (c.before.before.before.before.before.before.before.loop.r + 1) a.w
+work-is : (c : tie.After-wide-in-loop-r invariant-loop-r decreases-loop-r) → let a = c.args in
+    c.wide.result * c.wide-in-loop-r.result ≡ (a.w / word_at a.rows.now c.loop-r.r 0 + 1) * word_at a.rows.now c.loop-r.r 1
+work-is c = rw (c.wide.ensures, c.releases_by-releases.ensures, c.wide-in-loop-r.ensures) refl
+
+all-is : (c : tie.After-wide-in-loop-r invariant-loop-r decreases-loop-r) → let a = c.args in
+    c.loop-r.all + c.wide.result * c.wide-in-loop-r.result ≡ asked_by a.rows.now (c.loop-r.r + 1) a.w
 unfolding work_by releases_by cost
-all-is c = (let a = c.before.before.before.before.before.before.before.before.args in omega (arith, c.before.before.before.before.before.before.before.loop.invariant.2, work-is c, asked_more a.rows.now c.before.before.before.before.before.before.before.loop.r a.w))
+all-is c = (let a = c.args in omega (arith, c.loop-r.invariant.2, work-is c, asked_more a.rows.now c.loop-r.r a.w))
 
-small : (c : tie.After-wide2 invariant-loop decreases-loop) → c.before.before.before.before.before.before.before.loop.all + c.before.before.wide.result * c.wide2.result ≤ 100_000_000_000_000
+small : (c : tie.After-wide-in-loop-r invariant-loop-r decreases-loop-r) → c.loop-r.all + c.wide.result * c.wide-in-loop-r.result ≤ 100_000_000_000_000
 small c =
-    let start = c.before.before.before.before.before.before.before.before in
-    let a = start.args in
-    let fit = fit_fewer a.rows.now a.count (c.before.before.before.before.before.before.before.loop.r + 1) (omega (arith, c.before.before.before.before.before.before.loop-test.true)) start.requires.0 in
-    omega (arith, all-is c, asked_most a.rows.now (c.before.before.before.before.before.before.before.loop.r + 1) fit a.w start.requires.1, fit.few)
+    let a = c.args in
+    let fit = fit_fewer a.rows.now a.count (c.loop-r.r + 1) (omega (arith, c.loop-r-test.true)) c.requires.0 in
+    omega (arith, all-is c, asked_most a.rows.now (c.loop-r.r + 1) fit a.w c.requires.1, fit.few)
 
--- src/steps.rt:46:21
-mul-all : tie.Need-overflow-mul-all invariant-loop decreases-loop
-mul-all c = record { fits = omega (arith, small c) }
+overflow_mul-all : tie.Need-overflow_mul-all invariant-loop-r decreases-loop-r
+overflow_mul-all c = record { fits = omega (arith, small c) }
 
--- src/steps.rt:46:15
-add-all : tie.Need-overflow-add-all invariant-loop decreases-loop
-add-all c = record { fits = omega (arith, small c) }
+overflow_add-all : tie.Need-overflow_add-all invariant-loop-r decreases-loop-r
+overflow_add-all c = record { fits = omega (arith, small c) }
 
--- src/steps.rt:47:9
-mul-due : tie.Need-overflow-mul-due invariant-loop decreases-loop
-mul-due c = record { fits = omega (arith, c.before.before.before.before.before.before.loop-test.true, c.before.before.before.before.before.before.before.before.requires.0.few) }
+offset_bounds-due-r : tie.Need-offset_bounds-due-r invariant-loop-r decreases-loop-r
+offset_bounds-due-r c = record { fits = omega (arith, c.loop-r-test.true, c.requires.0.few) }
 
--- src/steps.rt:47:9
-element-write-due : tie.Need-element-write-due invariant-loop decreases-loop
-element-write-due c = omega (arith, c.before.before.before.before.before.before.loop-test.true, c.before.before.before.before.before.before.before.before.requires.0.few)
+bounds-due-r : tie.Need-bounds-due-r invariant-loop-r decreases-loop-r
+bounds-due-r c = omega (arith, c.loop-r-test.true, c.requires.0.few)
 
--- src/steps.rt:48:9
-smaller-requires : tie.Need-smaller-requires invariant-loop decreases-loop
-smaller-requires c κs = search rules
+smaller-next-requires : tie.Need-smaller-next-requires invariant-loop-r decreases-loop-r
+smaller-next-requires c κs = search rules
 
--- src/steps.rt:49:9
-add_r : tie.Need-overflow-add-r invariant-loop decreases-loop
-add_r c = search rules
+overflow_add-r-in-loop-r-2 : tie.Need-overflow_add-r-in-loop-r-2 invariant-loop-r decreases-loop-r
+overflow_add-r-in-loop-r-2 c = search rules
 
--- src/steps.rt:43:5
-loop-less : tie.Need-loop-smaller invariant-loop decreases-loop
-loop-less c = search rules
+loop-r-smaller : tie.Need-loop-r-smaller invariant-loop-r decreases-loop-r
+loop-r-smaller c = search rules
 
--- src/steps.rt:43:5
-loop-again : tie.Need-loop-preserved invariant-loop decreases-loop
-loop-again c =
-    let start = c.before.before.before.before.before.before.before.before.before in
-    let a = start.args in
-    let loop = c.before.before.before.before.before.before.before.before.loop in
+loop-r-preserved : tie.Need-loop-r-preserved invariant-loop-r decreases-loop-r
+loop-r-preserved c =
+    let a = c.args in
+    let loop = c.loop-r in
     let f = due_after a.rows.now a.w in
-    let then_is : c.before.before.before.before.before.releases-by.result * word_at a.rows.now loop.r 0 ≡ f loop.r = ap (λ (k : ℕ). k * word_at a.rows.now loop.r 0) c.before.before.before.before.before.releases-by.ensures in (
-      omega (arith, c.before.before.before.before.before.before.before.loop-test.true),
-      rw (loop.invariant.1, then_is) (overlaid_more f a.due.now loop.r (omega (arith, start.requires.2, c.before.before.before.before.before.before.before.loop-test.true, start.requires.0.few))),
-      all-is c.before,
-      rw (c.smaller.ensures, loop.invariant.3, then_is) (sym (least_more far f loop.r)),
+    let then_is : c.releases_by-releases.result * word_at a.rows.now loop.r 0 ≡ f loop.r = ap (λ (k : ℕ). k * word_at a.rows.now loop.r 0) c.releases_by-releases.ensures in (
+      omega (arith, c.loop-r-test.true),
+      rw (loop.invariant.1, then_is) (overlaid_more f a.due.now loop.r (omega (arith, c.requires.2, c.loop-r-test.true, c.requires.0.few))),
+      all-is c.before.before,
+      rw (c.smaller-next.ensures, loop.invariant.3, then_is) (sym (least_more far f loop.r)),
     )
 
--- src/steps.rt:34:1
-returns : tie.Need-returns invariant-loop decreases-loop
+returns : tie.Need-returns invariant-loop-r decreases-loop-r
 returns c =
-    let a = c.before.before.args in
-    let loop = c.before.loop in
+    let a = c.args in
+    let loop = c.loop-r in
     let f = due_after a.rows.now a.w in
-    let all : loop.r ≡ a.count = le_antisymm loop.invariant.0 c.loop-test.false in
+    let all : loop.r ≡ a.count = le_antisymm loop.invariant.0 c.loop-r-test.false in
     (loop.invariant.2 ∙ ap (λ (k : ℕ). asked_by a.rows.now k a.w) all, (loop.invariant.3 ∙ ap (least far f) all, loop.invariant.1 ∙ ap (λ (k : ℕ). overlaid f k a.due.now) all))
 
-pub begin-spec : {M : Type 1} → statement M
-begin-spec =
-    tie.close
-    (tie.spec
-    invariant-loop
-    decreases-loop
-    loop-holds
-    add-releases-by
-    mul-releases-by
-    element-copy-out-releases-by
-    releases-by-requires
-    add-then
-    mul-then
-    element-copy-out-then
-    mul-then-2
-    wide-requires
-    add_wide
-    mul_wide
-    element-copy-out-wide
-    wide-requires-2
-    mul-all
-    add-all
-    mul-due
-    element-write-due
-    smaller-requires
-    add_r
-    loop-less
-    loop-again
-    returns)
+pub begin_spec : {M : Type 1} → statement M
+begin_spec = tie.close (tie.spec invariant-loop-r decreases-loop-r loop-r-init overflow_add-r offset_bounds-rows-r bounds-rows-r releases_by-releases-requires overflow_add-then offset_bounds-rows-r-in-loop-r bounds-rows-r-in-loop-r overflow_mul-then wide-requires overflow_add-r-in-loop-r offset_bounds-rows-r-in-loop-r-2 bounds-rows-r-in-loop-r-2 wide-requires-in-loop-r overflow_mul-all overflow_add-all offset_bounds-due-r bounds-due-r smaller-next-requires overflow_add-r-in-loop-r-2 loop-r-smaller loop-r-preserved returns)

@@ -1,4 +1,6 @@
+use borrow.Author.Rules.{rules}
 -- A walk by hand: a reader is made of the slice and the number, and takes the field.
+
 -- A `&[u8]` is Copy: what it owns is had twice, once for the exit and once inside the reader.
 use mathlib.Core.Path.{refl}
 use Prim.Native.Nat.{ℕ, ◌≤◌, ◌<◌, ◌^◌}
@@ -57,10 +59,12 @@ abbrev stayed : Stays (take-field.ended).signature.params (take-field.ended).kep
 stayed = (stay_none_slice (0 ∷ []) tt (plain (λ _. u8)) yes, (stay_none (λ _. usize) yes, (stay_none (λ _. usize) yes, tt)))
 
 -- what both contracts ask
+
 abbrev Asks : ℕ → ℕ → Type 0
 Asks a w = (a ≤ 1_000_000) × (w ≤ 32)
 
 -- the contract that the proof cites
+
 abbrev Take : {M : Type 1} {𝓤 : Ura M} (𝓛 : Logic 𝓤) (mem : Memory → SProp 𝓤) (run : Routine → Fun 𝓤) → Contract 𝓤
 Take 𝓛 mem run = triple_of 𝓛 take.signature (take.spec 𝓛 mem run)
 
@@ -152,10 +156,11 @@ take-field-meets : {M : Type 1} {𝓤 : Ura M} (𝓛 : Logic 𝓤) (mem : Memory
 take-field-meets {𝓤 = 𝓤} 𝓛 mem run 𝓣 known = walk_Meets 𝓛 take-field.ended stayed (Goes-none_slice 𝓛 1 (0 ∷ []) tt (plain (λ _. u8)) yes, (Goes-none 𝓛 1 (λ _. usize) yes (λ κs x f. refl), (Goes-none 𝓛 1 (λ _. usize) yes (λ κs x f. refl), tt))) (take-field.clauses 𝓛 mem run) (WpFn 𝓤 𝓛.H 𝓣.C 𝓣.Λ code.function) (WpFn-mono 𝓤 𝓛.H 𝓛.laws 𝓣 code.function)
     (take-field-walks 𝓛 mem run 𝓣.C 𝓣.Λ (fm_of 𝓤 𝓛.H 𝓛.laws 𝓣) known)
 
-pub take-field-spec : {M : Type 1} → stated.statement M
-unfolding code.routine tables_of
-take-field-spec 𝓤 𝓛 𝓜 𝓡 =
-    entered 𝓤 𝓛.H (triple_of 𝓛 take-field.signature (take-field.spec 𝓛 𝓜.mem 𝓡.run))
-    (tables 𝓤 𝓛.H 𝓜 𝓡 code.env).C (tables 𝓤 𝓛.H 𝓜 𝓡 code.env).Λ #order·reader·take-field code.function (code.unfolded 𝓤 𝓛.H 𝓜 𝓡)
-    (take-field-meets 𝓛 𝓜.mem 𝓡.run (tables_of 𝓤 𝓛.H 𝓜 (tables 𝓤 𝓛.H 𝓜 𝓡 code.env))
-    (cited 𝓤 𝓛.H (Take 𝓛 𝓜.mem 𝓡.run) 𝓜 𝓡 code.env #order·reader·take take-def.routine code.calls-order::reader::OrderReader::take (take-thm.met 𝓤 𝓛 𝓜 𝓡)))
+take-requires : tie.Need-take-requires
+take-requires c κs = search rules
+
+returns : tie.Need-returns
+returns c = search rules
+
+pub take_field_spec : {M : Type 1} → statement M
+take_field_spec = tie.close (tie.spec take-requires returns)

@@ -1,4 +1,6 @@
+use borrow.Author.Rules.{rules}
 -- A walk by hand: the reader is taken apart, and `field_at` is called on the slice and the number.
+
 -- The struct is Copy: what it owns is had twice, one copy is kept for the exit, and what the order owns goes to the callee.
 use mathlib.Core.Path.{◌≡◌, refl}
 use Prim.Native.Nat.{ℕ, ◌≤◌, ◌<◌, ◌^◌}
@@ -57,6 +59,7 @@ use Rattle.order.proofs.reader.OrderReader.take.Statement as stated
 use Rattle.order.proofs.reader.OrderReader.take.Code as code
 
 -- the struct's type, over the signature's lifetimes
+
 abbrev B : Lfts 1 → RattleType
 B κs = T.the_row (named_lft 1 0 tt κs)
 
@@ -64,6 +67,7 @@ abbrev stayed : Stays (take.ended).signature.params (take.ended).kept
 stayed = (stay_none B yes, (stay_none (λ _. usize) yes, tt))
 
 -- what both contracts ask and say
+
 abbrev Asks : OrderReader → ℕ → Type 0
 Asks d w = (d.at ≤ 1_000_000) × (w ≤ 32)
 
@@ -71,6 +75,7 @@ abbrev Says : OrderReader → ℕ → Taken → Type 0
 Says d w r = TakesField d.order.now d.at w r
 
 -- the contract that the proof cites
+
 abbrev FieldAt : {M : Type 1} {𝓤 : Ura M} (𝓛 : Logic 𝓤) (mem : Memory → SProp 𝓤) (run : Routine → Fun 𝓤) → Contract 𝓤
 FieldAt 𝓛 mem run = triple_of 𝓛 work.signature (work.spec 𝓛 mem run)
 
@@ -165,10 +170,11 @@ take_meets : {M : Type 1} {𝓤 : Ura M} (𝓛 : Logic 𝓤) (mem : Memory → S
 take_meets {𝓤 = 𝓤} 𝓛 mem run 𝓣 known = walk_Meets 𝓛 take.ended stayed (Goes-none 𝓛 1 B yes (λ κs x f. refl), (Goes-none 𝓛 1 (λ _. usize) yes (λ κs x f. refl), tt)) (take.clauses 𝓛 mem run) (WpFn 𝓤 𝓛.H 𝓣.C 𝓣.Λ code.function) (WpFn-mono 𝓤 𝓛.H 𝓛.laws 𝓣 code.function)
     (take_walks 𝓛 mem run 𝓣.C 𝓣.Λ (fm_of 𝓤 𝓛.H 𝓛.laws 𝓣) known)
 
-pub take_spec : {M : Type 1} → stated.statement M
-unfolding code.routine tables_of
-take_spec 𝓤 𝓛 𝓜 𝓡 =
-    entered 𝓤 𝓛.H (triple_of 𝓛 take.signature (take.spec 𝓛 𝓜.mem 𝓡.run))
-    (tables 𝓤 𝓛.H 𝓜 𝓡 code.env).C (tables 𝓤 𝓛.H 𝓜 𝓡 code.env).Λ #order·reader·take code.function (code.unfolded 𝓤 𝓛.H 𝓜 𝓡)
-    (take_meets 𝓛 𝓜.mem 𝓡.run (tables_of 𝓤 𝓛.H 𝓜 (tables 𝓤 𝓛.H 𝓜 𝓡 code.env))
-    (cited 𝓤 𝓛.H (FieldAt 𝓛 𝓜.mem 𝓡.run) 𝓜 𝓡 code.env #order·reader·field-at work-def.routine code.calls-order::reader::field-at (work-thm.met 𝓤 𝓛 𝓜 𝓡)))
+field_at-requires : tie.Need-field_at-requires
+field_at-requires c κs = search rules
+
+returns : tie.Need-returns
+returns c = search rules
+
+pub take_spec : {M : Type 1} → statement M
+take_spec = tie.close (tie.spec field_at-requires returns)

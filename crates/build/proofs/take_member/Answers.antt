@@ -1,0 +1,21 @@
+use borrow.Author.Rules.{rules}
+use Prim.Native.Nat.{ℕ, ◌*◌, ◌%◌}
+use mathlib.Core.Path.{◌≡◌, sym, ap, ◌∙◌}
+use mathlib.Core.List.{List}
+use native.Mathlib.Nat.{div-one}
+use lib.ListN.{get_or}
+use Rattle.bits.specs.Field.{field}
+use Rattle.model.specs.Layouts.{member_record, build_length}
+use Rattle.build.specs.Build.{member_from, member_fields}
+use Rattle.build.proofs.Records.{cut_at}
+use Rattle.build.proofs.take_member.Goals as goal
+
+pub returns : goal.returns
+unfolding member_fields
+returns c =
+    let a = c.args in
+    let s = a.build.now in
+    let number = c.number_at-number.result in
+    let taken : number ≡ field s (8 * build_length 1 a.partitions a.task) 32 = c.number_at-number.ensures ∙ ap (λ (from : ℕ). field s (8 * from) 32) c.bytes-from.ensures in
+    let cut = cut_at s _ member_record number taken in
+    (sym (ap member_from cut), sym (ap (λ (numbers : List ℕ). get_or numbers 3 0) cut ∙ ap (◌% 2) (div-one number)))

@@ -1,0 +1,19 @@
+use borrow.Author.Rules.{rules}
+use lib.ListN.{replicate}
+use Prim.Native.Nat.{◌≤◌, ◌-◌}
+use mathlib.Core.Path.{◌≡◌, sym, ap, ◌∙◌}
+use native.Mathlib.Nat.{le_antisymm}
+use native.Mathlib.Omega.{arith}
+use Rattle.laws.specs.Joined.{filled}
+use Rattle.laws.proofs.Joined.{filled_none, filled_more}
+use Rattle.model.specs.Limits.{most_tasks, zero_task}
+use Rattle.model.proofs.Rules.{AllPass, pass_done, never}
+use Rattle.order.specs.Order.{task_start, task_at, spare_rules}
+use Rattle.order.proofs.Rules.{spare_none, spare_more, spare_stop}
+use Rattle.order.proofs.read_table.Given as goal
+
+abbrev pub invariant-loop-i : goal.invariant-loop-i
+invariant-loop-i l = (l.i ≤ l.tasks) × (l.at ≡ task_start l.i) × AllPass (spare_rules l.order l.i) × (l.table ≡ filled (task_at l.order) zero_task most_tasks l.i)
+
+abbrev pub decreases-loop-i : goal.decreases-loop-i
+decreases-loop-i l = l.tasks - l.i

@@ -1,0 +1,10 @@
+use borrow.Author.Rules.{rules}
+use native.Mathlib.Omega.{arith}
+use Rattle.put.proofs.Counted.{Counted, counted_none, counted_more, counted_all}
+use Rattle.put.proofs.digits_in.Given as goal
+
+abbrev pub invariant-loop-left : goal.invariant-loop-left
+invariant-loop-left l = Counted l.number l.digits l.left
+
+abbrev pub decreases-loop-left : goal.decreases-loop-left
+decreases-loop-left l = l.left

@@ -1,0 +1,6 @@
+use borrow.Author.Rules.{rules}
+use Rattle.sets.proofs.Sizes.{ones_size}
+use Rattle.sets.proofs.size.Goals as goal
+
+pub returns : goal.returns
+returns c = ones_size c.args.set (search rules)
