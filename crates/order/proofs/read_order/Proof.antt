@@ -38,14 +38,14 @@ tasks-few w e =
     omega (arith, sound.tasks.1, ap (λ (h : Header). h.tasks) (header_same w))
 
 abbrev judged : tie.After-read_table-records → tie.After-judge_header-layout
-judged t = t.before.before.before.before
+judged t = t.before.before.before
 
 -- 1 to 6, the header's and the tasks'
 
 layout : (t : tie.After-read_table-records) → first_broken 0 (layout_rules (S (judged t))) ≡ t.read_table-records.result.spares
 layout t =
     let w = judged t in
-    layout_on (S w) (found w ∙ t.enum_told-1.given.1) ∙ ap (λ (h : Header). first_broken 0 (spare_rules (S w) h.tasks)) (sym (header_same w)) ∙ sym t.read_table-records.ensures.0
+    layout_on (S w) (found w ∙ t.in_default.is) ∙ ap (λ (h : Header). first_broken 0 (spare_rules (S w) h.tasks)) (sym (header_same w)) ∙ sym t.read_table-records.ensures.0
 
 -- the order that was read is the one that stands in the bytes
 
@@ -54,14 +54,14 @@ order_same : (s : List ℕ) (h : Header) (table : List Task) → h ≡ header_of
 unfolding order_at
 order_same s h table e f = rw (f, e)
 
-read_same : (c : tie.After-table-1) → record { processors = (header (judged c.before.before.before)).processors; tasks = (header (judged c.before.before.before)).tasks; table = c.read_table-records.result.table } ≡ order_at (S (judged c.before.before.before))
+read_same : (c : tie.After-table-1) → record { processors = (header (judged c.before.before)).processors; tasks = (header (judged c.before.before)).tasks; table = c.read_table-records.result.table } ≡ order_at (S (judged c.before.before))
 read_same c =
-    order_same (S (judged c.before.before.before)) (header (judged c.before.before.before)) _ (header_same (judged c.before.before.before)) (c.read_table-records.ensures.1 _ c.enum_told-in_default-spares-1.given.1)
+    order_same (S (judged c.before.before)) (header (judged c.before.before)) _ (header_same (judged c.before.before)) (c.read_table-records.ensures.1 _ c.in_default-spares.is)
 
 abbrev ranges_of : Order → Answer
 ranges_of o = first_broken 0 (range_rules o)
 
-ranges-same : (c : tie.After-judge-judged) → c.judge-judged.result ≡ ranges_of (order_at (S (judged c.before.before.before.before)))
+ranges-same : (c : tie.After-judge-judged) → c.judge-judged.result ≡ ranges_of (order_at (S (judged c.before.before.before)))
 ranges-same c = c.judge-judged.ensures ∙ ap ranges_of (read_same c.before)
 
 read_header-header-requires : tie.Need-read_header-header-requires
@@ -78,7 +78,7 @@ refused-requires c κs = search rules
 
 returns-in-Refused : tie.Need-returns-in-Refused
 returns-in-Refused c =
-    c.refused.ensures ∙ read_stop (S c.before.before.before.before) (layout_stop (S c.before.before.before.before) (found c.before.before.before.before ∙ c.layout-1.given.1))
+    c.refused.ensures ∙ read_stop (S c.before.before) (layout_stop (S c.before.before) (found c.before.before ∙ c.in-Refused.is))
 
 enum_told-1 : tie.Need-enum_told-1
 enum_told-1 c = search rules
@@ -87,7 +87,7 @@ overflow_cast-header : tie.Need-overflow_cast-header
 overflow_cast-header c = search rules
 
 read_table-records-requires : tie.Need-read_table-records-requires
-read_table-records-requires c κs = tasks-few c.before.before.before c.enum_told-1.given.1
+read_table-records-requires c κs = tasks-few c.before.before c.in_default.is
 
 enum_known-spares : tie.Need-enum_known-spares
 enum_known-spares c = search rules
@@ -97,14 +97,14 @@ refused-requires-in-Refused-spares c κs = search rules
 
 returns-in-Refused-spares : tie.Need-returns-in-Refused-spares
 returns-in-Refused-spares c =
-    c.refused-in-Refused-spares.ensures ∙ read_stop (S (judged c.before.before.before.before)) (layout c.before.before.before.before ∙ c.spares-1.given.1)
+    c.refused-in-Refused-spares.ensures ∙ read_stop (S (judged c.before.before)) (layout c.before.before ∙ c.in-Refused-spares.is)
 
 enum_told-in_default-spares : tie.Need-enum_told-in_default-spares
 enum_told-in_default-spares c = search rules
 
 judge-judged-requires : tie.Need-judge-judged-requires
 judge-judged-requires c κs =
-    tasks-few (judged c.before.before.before) c.enum_told-1.given.1
+    tasks-few (judged c.before.before) c.in_default.is
 
 enum_known-judged : tie.Need-enum_known-judged
 enum_known-judged c = search rules
@@ -117,11 +117,11 @@ enum_told-in-Done c = search rules
 
 returns-in-Refused-judged : tie.Need-returns-in-Refused-judged
 returns-in-Refused-judged c =
-    c.refused-in-Refused-judged.ensures ∙ read_range (S (judged c.before.before.before.before.before.before.before.before)) (layout c.before.before.before.before.before.before.before.before ∙ c.enum_told-in_default-spares-1.given.1) (sym (ranges-same c.before.before.before.before) ∙ c.judged-1.given.1)
+    c.refused-in-Refused-judged.ensures ∙ read_range (S (judged c.before.before.before.before.before)) (layout c.before.before.before.before.before ∙ c.in_default-spares.is) (sym (ranges-same c.before.before) ∙ c.in-Refused-judged.is)
 
 returns-in-Done : tie.Need-returns-in-Done
 returns-in-Done c =
-    ap (λ (o : Order). record { answer = Done 0; order = o }) (read_same c.before.before.before) ∙ read_done (S (judged c.before.before.before.before.before.before)) (layout c.before.before.before.before.before.before ∙ c.enum_told-in_default-spares-1.given.1) (sym (ranges-same c.before.before) ∙ c.enum_told-in-Done-1.given.1)
+    ap (λ (o : Order). record { answer = Done 0; order = o }) (read_same c.before.before) ∙ read_done (S (judged c.before.before.before.before)) (layout c.before.before.before.before ∙ c.in_default-spares.is) (sym (ranges-same c.before) ∙ c.in-Done.is)
 
 pub read_order_spec : {M : Type 1} → statement M
 read_order_spec = tie.close (tie.spec read_header-header-requires judge_header-layout-requires enum_known-layout refused-requires returns-in-Refused enum_told-1 overflow_cast-header read_table-records-requires enum_known-spares refused-requires-in-Refused-spares returns-in-Refused-spares enum_told-in_default-spares judge-judged-requires enum_known-judged refused-requires-in-Refused-judged enum_told-in-Done returns-in-Refused-judged returns-in-Done)
