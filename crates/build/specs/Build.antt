@@ -1,7 +1,7 @@
 -- "Bits on the wire", the build: its records, its bytes, and the build that stands in some bytes.
-use Rattle.std.specs.Prelude.{ℕ, ◌+◌, ◌*◌, ◌≤◌, ◌<◌, ◌^◌, List, [], ◌∷◌, ◌++◌, get_or}
+use Rattle.std.specs.Prelude.{ℕ, ◌*◌, ◌≤◌, ◌<◌, ◌^◌, List, [], ◌∷◌, ◌++◌, get_or}
 use Rattle.laws.specs.Joined.{joined, filled}
-use Rattle.bits.specs.Layout.{bytes_in, record_bytes, FitIn, numbers_at}
+use Rattle.bits.specs.Layout.{record_bytes, FitIn, numbers_at}
 use Rattle.model.specs.declared.build.Partition.{Partition}
 use Rattle.model.specs.declared.build.Member.{Member}
 use Rattle.model.specs.declared.build.Build.{Build}

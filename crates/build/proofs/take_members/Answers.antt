@@ -1,14 +1,11 @@
 use borrow.Author.Rules.{rules}
-use Prim.Native.Nat.{◌≤◌, ◌-◌}
-use mathlib.Core.Path.{◌≡◌, ap, ◌∙◌}
+use mathlib.Core.Path.{ap, ◌∙◌}
 use native.Mathlib.Nat.{le_antisymm}
 use native.Mathlib.Omega.{arith}
 use lib.ListN.{replicate}
-use Rattle.laws.specs.Joined.{filled}
 use Rattle.laws.proofs.Joined.{filled_none, filled_more}
 use Rattle.model.specs.Limits.{most_tasks, zero_member}
 use Rattle.build.specs.Build.{member_at}
-use Rattle.build.specs.Taken.{members_clear}
 use Rattle.build.proofs.Records.{members_none, members_next}
 use Rattle.build.proofs.take_members.Goals as goal
 

@@ -1,15 +1,9 @@
-use borrow.Author.Rules.{rules}
 use Prim.Native.Nat.{◌≤◌, ◌-◌}
-use mathlib.Core.Path.{◌≡◌, ap, ◌∙◌}
-use native.Mathlib.Nat.{le_antisymm}
-use native.Mathlib.Omega.{arith}
-use lib.ListN.{replicate}
+use mathlib.Core.Path.{◌≡◌}
 use Rattle.laws.specs.Joined.{filled}
-use Rattle.laws.proofs.Joined.{filled_none, filled_more}
 use Rattle.model.specs.Limits.{most_partitions, zero_partition}
 use Rattle.build.specs.Build.{partition_at}
 use Rattle.build.specs.Taken.{partitions_clear}
-use Rattle.build.proofs.Records.{partitions_none, partitions_next}
 use Rattle.build.proofs.take_places.Given as goal
 
 abbrev pub invariant-loop-i : goal.invariant-loop-i
