@@ -2,14 +2,14 @@
 use mathlib.Core.Path.{◌≡◌, refl, sym, ap, ◌∙◌, subst}
 use mathlib.Core.Bool.{Bool, true, false, ◌&&◌}
 use Prim.Native.Nat.{ℕ, zero, suc, ◌+◌, ◌-◌, ◌≤◌, ◌<◌}
-use native.Mathlib.Decide.{dec_lt, dec_le, ℕ_discrete}
+use native.Mathlib.Decide.{dec_lt, ℕ_discrete}
 use native.Mathlib.Nat.{le_antisymm}
 use native.Mathlib.Omega.{arith}
 use lib.Dec.{eqb}
 use borrow.Author.Tests.{eqb-true, eq-eqb}
 use Rattle.laws.specs.Sums.{only, sum, largest}
 use Rattle.laws.proofs.Every.{and_both, both_and}
-use Rattle.laws.proofs.Only.{only_true, only_false, only_some, only_le}
+use Rattle.laws.proofs.Only.{only_true, only_false, only_some}
 use Rattle.laws.proofs.Sums.{sum_same, sum_in, sum_some, largest_in, largest_le}
 use Rattle.laws.proofs.Inserted.{sum_front}
 use Rattle.model.specs.declared.order.Order.{Order}

@@ -1,14 +1,14 @@
 -- One row written over: its own four numbers, and all others as they were; and a row read back.
-use mathlib.Core.Path.{◌≡◌, refl, sym, ap, ◌∙◌}
+use mathlib.Core.Path.{◌≡◌, ◌∙◌}
 use mathlib.Core.List.{List}
 use mathlib.Core.Logic.{◌≢◌}
-use Prim.Native.Nat.{ℕ, zero, suc, ◌+◌, ◌*◌, ◌≤◌, ◌<◌}
+use Prim.Native.Nat.{ℕ, zero, suc, ◌+◌, ◌*◌, ◌<◌}
 use native.Mathlib.Omega.{arith}
-use lib.ListN.{length, get_or, set, length-set}
+use lib.ListN.{length, set, length-set}
 use lib.Seq.{get_or-set_same, get_or-set_other}
 use Rattle.model.specs.declared.order.Task.{Task}
-use Rattle.model.specs.Limits.{most_tasks, cost}
-use Rattle.asked.specs.Rows.{word_at, share_of}
+use Rattle.model.specs.Limits.{most_tasks}
+use Rattle.asked.specs.Rows.{word_at}
 use Rattle.roster.specs.Rows.{most_rows, row_put, RowOf}
 
 module _ (rows : List ℕ) (r period cost share deadline : ℕ) (places : length rows ≡ most_rows) (few : r < most_tasks) where

@@ -1,9 +1,8 @@
 -- Rows of ranked members give what the test asks of the order itself.
-use mathlib.Core.Path.{◌≡◌, refl, sym, ap, ◌∙◌, subst, fun_ext}
+use mathlib.Core.Path.{◌≡◌, refl, sym, ap, ◌∙◌, fun_ext}
 use mathlib.Core.List.{List}
-use Prim.Native.Nat.{ℕ, ◌+◌, ◌-◌, ◌*◌, ◌/◌, ◌≤◌, ◌<◌}
+use Prim.Native.Nat.{ℕ, ◌+◌, ◌-◌, ◌*◌, ◌≤◌, ◌<◌}
 use native.Mathlib.Omega.{arith}
-use Rattle.laws.specs.Sums.{sum, largest}
 use Rattle.laws.proofs.Sums.{sum_same, largest_same}
 use Rattle.model.specs.declared.order.Task.{Task}
 use Rattle.model.specs.declared.order.Order.{Order}
@@ -15,7 +14,7 @@ use Rattle.demand.specs.Releases.{ceil_div, releases_by, work_by, jobs}
 use Rattle.demand.specs.Test.{first_met, response_from, largest_found, verdict_by, blocking, higher_work, verdict}
 use Rattle.demand.specs.Over.{start_over, window_over, response_over, verdict_over}
 use Rattle.demand.proofs.Demands.{sized_of, verdict-is_over}
-use Rattle.asked.specs.Rows.{word_at, row_task, share_at, share_of, RowsFit, asked_by, blocking_in}
+use Rattle.asked.specs.Rows.{row_task, share_of, RowsFit, asked_by, blocking_in}
 use Rattle.asked.proofs.Rows.{asked_more}
 use Rattle.roster.specs.Rows.{RowOf}
 use Rattle.roster.specs.Ranked.{Ranked, RowsOf}
