@@ -1,6 +1,5 @@
 use mathlib.Core.Path.{sym, ◌∙◌}
 use lib.ListN.{get_or}
-use borrow.Author.Rules.{rules}
 use Rattle.typed.specs.declared.Kind.TheVariants.{Digit, Mark, Semicolon, LineFeed, Other}
 use Rattle.typed.proofs.ByKind.{ends_by_lem}
 use Rattle.typed.proofs.ends_at.Goals as goal

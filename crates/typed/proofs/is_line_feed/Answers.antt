@@ -1,5 +1,4 @@
 use mathlib.Core.Path.{sym, ◌∙◌}
-use borrow.Author.Rules.{rules}
 use Rattle.typed.specs.declared.Kind.TheVariants.{Digit, Mark, Semicolon, LineFeed, Other}
 use Rattle.typed.proofs.ByKind.{Told, kind_tells}
 use Rattle.typed.proofs.is_line_feed.Goals as goal

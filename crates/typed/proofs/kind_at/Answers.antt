@@ -1,6 +1,5 @@
 use mathlib.Core.Path.{sym, ap}
 use lib.ListN.{get_or-eq_default}
-use borrow.Author.Rules.{rules}
 use Rattle.typed.specs.Kinds.{kind_of}
 use Rattle.typed.proofs.kind_at.Goals as goal
 

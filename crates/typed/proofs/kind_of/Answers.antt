@@ -1,7 +1,7 @@
 use mathlib.Core.Path.{◌≡◌, sym}
 use mathlib.Core.Logic.{inl, inr}
 use mathlib.Core.Bool.{false}
-use Prim.Native.Nat.{ℕ}
+use Prim.Native.Nat.{ℕ, ◌<◌, ◌≤◌}
 use native.Mathlib.Omega.{arith}
 use types.Run.{OneOf}
 use mathlib.Core.List.{[], ◌∷◌}
@@ -30,15 +30,14 @@ unfolding kind_of
 returns-in-10 c = rw c.in-10.is
 
 pub returns-in-48-to-57 : goal.returns-in-48-to-57
-returns-in-48-to-57 c = sym (digit_kind _ (true_within 48 57 _ c.if-byte-lt48.false (omega (arith, c.if-byte-lt58.true))))
+returns-in-48-to-57 c = sym (digit_kind _ (true_within 48 57 c.args.byte (omega arith) (omega arith)))
 
 -- none of the bytes that are named
-
 none_named : (b : ℕ) → is_digit b ≡ false → (((Unit {0} × (OneOf (comma ∷ point ∷ []) b → ⊥)) × (OneOf (semicolon ∷ []) b → ⊥)) × (OneOf (line_feed ∷ []) b → ⊥)) → Other ≡ kind_of b
 none_named b d none = sym (other_kind b d (rw (ne_eqb b comma (λ h. none.0.0.1 (inl h)), ne_eqb b point (λ h. none.0.0.1 (inr h)))) (ne_eqb b semicolon none.0.1) (ne_eqb b line_feed none.1))
 
 pub returns-in_default : goal.returns-in_default
-returns-in_default c = none_named _ (rw (lt-leb _ _ c.if-byte-lt48.true)) c.in-44.rest
+returns-in_default c = let low : c.args.byte < 48 = omega arith in none_named _ (rw (lt-leb _ _ low)) c.in_default.in_default-own.rest
 
 pub returns-in_default-2 : goal.returns-in_default-2
-returns-in_default-2 c = none_named _ (rw (le-leb _ _ c.if-byte-lt48.false) (lt-leb _ 57 c.if-byte-lt58.false)) c.in-44.rest
+returns-in_default-2 c = let low : 48 ≤ c.args.byte = omega arith in let high : 57 < c.args.byte = omega arith in none_named _ (rw (le-leb _ _ low) (lt-leb _ 57 high)) c.in_default.in_default-own.rest

@@ -1,6 +1,4 @@
 use mathlib.Core.Path.{sym, ◌∙◌}
-use borrow.Author.Rules.{rules}
-use borrow.Author.Tests.{not-true, not-false}
 use Rattle.typed.proofs.Decimals.{none_taken, mark_within, one_taken, two_taken, more_taken}
 use Rattle.typed.proofs.take_decimals.Goals as goal
 
@@ -21,5 +19,4 @@ returns-in-2 c =
     let a = c.args in two_taken a.text.now a.at c.take_digits-digits.result c.take_digits-digits.ensures (sym c.mark_at.ensures ∙ c.if-not-mark_at.false) c.in-2.is
 
 pub returns-in_default : goal.returns-in_default
-returns-in_default c =
-    let a = c.args in more_taken a.text.now a.at c.take_digits-digits.result c.take_digits-digits.ensures (sym c.mark_at.ensures ∙ c.if-not-mark_at.false) c.in-1.rest.0.1 c.in-1.rest.1
+returns-in_default c = let a = c.args in more_taken a.text.now a.at c.take_digits-digits.result c.take_digits-digits.ensures (sym c.mark_at.ensures ∙ c.if-not-mark_at.false) c.in_default.in_default-own.rest.0.1 c.in_default.in_default-own.rest.1

@@ -2,7 +2,6 @@ use mathlib.Core.Path.{ap, ◌∙◌}
 use mathlib.Core.Bool.{Bool, false}
 use native.Mathlib.Omega.{arith}
 use lib.Dec.{ltb}
-use borrow.Author.Rules.{rules}
 use Rattle.laws.specs.Choice.{pick}
 use Rattle.typed.proofs.Told.{digits_within}
 use Rattle.typed.proofs.Whole.{time_taken, time_within}
@@ -17,7 +16,6 @@ take_decimals-decimals-requires c =
 pub overflow_add-result : goal.overflow_add-result
 overflow_add-result c =
     let a = c.args in
-    let known = c.shared_slice_known-1.given in
     let digits = c.take_digits-whole in
     let decimals = c.take_decimals-decimals in
     let inside = time_within a.text.now a.at a.last digits.result digits.ensures decimals.result decimals.ensures c.requires in
