@@ -1,8 +1,7 @@
 -- 40 to 46 hold exactly of accepted scripts.
-use mathlib.Core.Path.{◌≡◌, refl, sym, ap, ◌∙◌, subst}
-use mathlib.Core.Bool.{true}
+use mathlib.Core.Path.{◌≡◌, refl, sym, ap, subst}
 use mathlib.Core.List.{List}
-use Prim.Native.Nat.{ℕ, zero, suc, ◌+◌, ◌≤◌, ◌<◌}
+use Prim.Native.Nat.{ℕ, suc, ◌+◌, ◌≤◌, ◌<◌}
 use native.Mathlib.Omega.{arith}
 use lib.ListN.{length}
 use borrow.Author.Tests.{le-leb, leb-true}
@@ -13,7 +12,7 @@ use Rattle.model.proofs.Rules.{kept_at, kept_all}
 use Rattle.demand.specs.Releases.{period_of}
 use Rattle.machine.specs.Pattern.{run_of, record_of, Before, LegalScript}
 use Rattle.machine.proofs.Script.{rise_by_neighbours}
-use Rattle.script.specs.Script.{release_at, spare_at, records_in, script_of, in_order, earliest, far_enough, release_rules, script_rules, WholeRecords}
+use Rattle.script.specs.Script.{release_at, spare_at, records_in, script_of, in_order, earliest, far_enough, release_rules, script_rules}
 use Rattle.script.specs.Claims.{ScriptAccepted, RulesOfScripts}
 use Rattle.script.proofs.Records.{script_length_lem, script_record, Far, far-earliest, earliest-far}
 use Rattle.script.proofs.Tells.{gap_tells}

@@ -1,15 +1,15 @@
 -- Laws of keys: tick and task out of a key, and that keys rise exactly as records do.
-use mathlib.Core.Path.{◌≡◌, refl, sym, ap, ◌∙◌}
+use mathlib.Core.Path.{◌≡◌, refl, sym, ◌∙◌}
 use mathlib.Core.Bool.{Bool, true, false, ◌&&◌, ◌||◌}
 use mathlib.Core.List.{List}
 use mathlib.Core.Logic.{inl, inr}
-use Prim.Native.Nat.{ℕ, zero, suc, ◌+◌, ◌*◌, ◌/◌, ◌%◌, ◌≤◌, ◌<◌, ◌^◌}
-use native.Mathlib.Decide.{dec_le, dec_lt}
+use Prim.Native.Nat.{ℕ, zero, suc, ◌+◌, ◌/◌, ◌%◌, ◌<◌, ◌^◌}
+use native.Mathlib.Decide.{dec_lt}
 use native.Mathlib.Numerals.{add-one}
 use native.Mathlib.Omega.{arith}
 use lib.Dec.{leb, ltb, eqb}
-use borrow.Author.Tests.{lt-ltb, le-ltb, ltb-true, eq-eqb, ne_eqb, eqb-true, le-leb, lt-leb}
-use Rattle.laws.proofs.Every.{clash, and_both}
+use borrow.Author.Tests.{lt-ltb, ltb-true, eq-eqb, eqb-true, le-leb, lt-leb}
+use Rattle.laws.proofs.Every.{and_both}
 use Rattle.model.specs.declared.build.Release.{Release}
 use Rattle.machine.specs.Pattern.{Before}
 use Rattle.script.specs.Script.{release_at, comes_before, after_previous}

@@ -7,19 +7,18 @@ use mathlib.Core.Logic.{◌⊎◌, inl, inr, ⊎_elim}
 use native.Mathlib.Decide.{dec_lt}
 use native.Mathlib.Nat.{eq-or-lt_of_le, le_of_suc-le-suc}
 use native.Mathlib.Omega.{arith}
-use lib.Dec.{leb, ltb, eqb}
+use lib.Dec.{leb, eqb}
 use lib.ListN.{length}
 use borrow.Author.Tests.{lt-ltb, ltb-true, eq-eqb, eqb-true, eqb-false, le-leb, leb-true}
 use Rattle.laws.specs.Choice.{pick}
 use Rattle.laws.proofs.Every.{and_both, both_and}
 use Rattle.model.specs.declared.order.Order.{Order}
 use Rattle.model.specs.declared.build.Release.{Release}
-use Rattle.model.specs.Limits.{most_records}
 use Rattle.model.specs.Rules.{Tells, TestsTell, OneRightAnswer}
 use Rattle.model.proofs.Rules.{tell_all, equal_tells, at_most_tells, in_range_tells, one_right_answer}
 use Rattle.demand.specs.Releases.{period_of}
 use Rattle.machine.specs.Pattern.{run_of, Before}
-use Rattle.script.specs.Script.{release_at, spare_at, records_in, WholeRecords, whole_records, after_previous, in_order, LastEarlier, earliest, far_enough, release_rules, script_rules}
+use Rattle.script.specs.Script.{release_at, spare_at, records_in, WholeRecords, whole_records, after_previous, in_order, earliest, far_enough, release_rules, script_rules}
 use Rattle.script.specs.Claims.{OneScriptAnswer}
 use Rattle.script.proofs.Keys.{before_true, true_before}
 
