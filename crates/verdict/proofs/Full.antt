@@ -1,18 +1,17 @@
 -- Where more is asked in every tick than the tick itself, no window closes; and the window as a search over one row more.
-use mathlib.Core.Path.{◌≡◌, refl, sym, ap, ◌∙◌, subst}
-use mathlib.Core.Bool.{Bool, true, false}
+use mathlib.Core.Path.{◌≡◌, sym, ap, subst}
+use mathlib.Core.Bool.{true, false}
 use mathlib.Core.List.{List}
 use Prim.Native.Nat.{ℕ, ◌+◌, ◌-◌, ◌*◌, ◌≤◌, ◌<◌, min}
 use native.Mathlib.Nat.{mul_comm, mul-le-mul_left, mul-add}
 use native.Mathlib.Decide.{dec_le}
 use native.Mathlib.Omega.{arith}
 use Rattle.model.specs.Limits.{horizon}
-use Rattle.search.specs.declared.Found.{Found}
 use Rattle.search.specs.declared.Found.TheVariants.{At, Nothing}
 use Rattle.demand.specs.declared.Verdict.TheVariants.{Passes, NoWindow}
 use Rattle.demand.specs.Releases.{work_by}
-use Rattle.demand.specs.Test.{first_met, does_pass, response_of}
-use Rattle.demand.specs.Meaning.{FirstMetAt, NeverMet}
+use Rattle.demand.specs.Test.{does_pass, response_of}
+use Rattle.demand.specs.Meaning.{NeverMet}
 use Rattle.demand.specs.Over.{window_over, verdict_over}
 use Rattle.demand.proofs.FirstMet.{met_at, met_never}
 use Rattle.asked.specs.Rows.{RowsFit, row_task, asked_by, whole}

@@ -1,6 +1,6 @@
 -- A member's jobs, one after the other: what the searches' answers say of its window and of its verdict.
-use mathlib.Core.Path.{◌≡◌, refl, sym, ap, ◌∙◌, subst}
-use mathlib.Core.Bool.{true, false}
+use mathlib.Core.Path.{◌≡◌, refl, sym, ap, ◌∙◌}
+use mathlib.Core.Bool.{false}
 use mathlib.Core.Logic.{◌↔◌}
 use Prim.Native.Nat.{ℕ, ◌+◌, ◌-◌, ◌*◌, ◌≤◌, ◌<◌, min, max}
 use native.Mathlib.Nat.{le_trans, mul-le-mul_left, add-mul, one-mul, le_antisymm}
@@ -11,8 +11,7 @@ use Rattle.model.specs.Limits.{horizon, cost}
 use Rattle.model.specs.Rules.{Sized}
 use Rattle.search.specs.declared.Found.{Found}
 use Rattle.search.specs.declared.Found.TheVariants.{At, Nothing}
-use Rattle.demand.specs.declared.Verdict.{Verdict}
-use Rattle.demand.specs.declared.Verdict.TheVariants.{Passes, NoWindow, NoStart, TooLate}
+use Rattle.demand.specs.declared.Verdict.TheVariants.{Passes, NoWindow, TooLate}
 use Rattle.demand.specs.Releases.{work_by, jobs}
 use Rattle.demand.specs.Test.{first_met, largest_found, judged, does_pass, response_of}
 use Rattle.demand.specs.Meaning.{FirstMetAt, NeverMet}
