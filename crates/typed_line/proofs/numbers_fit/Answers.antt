@@ -6,8 +6,7 @@ use borrow.Author.Tests.{le-leb, lt-leb}
 use Rattle.model.specs.declared.order.Task.{Task}
 use Rattle.form.specs.Numbers.{most_typed}
 use Rattle.form.specs.Lines.{numbers_fit}
-use Rattle.typed_line.proofs.numbers_fit.Statement.{statement}
-use Rattle.typed_line.proofs.numbers_fit.Tie as tie
+use Rattle.typed_line.proofs.numbers_fit.Goals as goal
 
 module _ (t : Task) where
   width_over : most_typed < t.width → false ≡ numbers_fit t
@@ -26,17 +25,14 @@ module _ (t : Task) where
   unfolding numbers_fit
   run-told w p d = rw (le-leb _ _ w, le-leb _ _ p, le-leb _ _ d)
 
-returns : tie.Need-returns
-returns c = width_over c.before.before.args.task c.if1.true
+pub returns-then-task-gt-MOST_TYPED : goal.returns-then-task-gt-MOST_TYPED
+returns-then-task-gt-MOST_TYPED c = width_over c.args.task c.if-task-gt-MOST_TYPED.true
 
-returns-2 : tie.Need-returns-2
-returns-2 c = period-over c.before.before.before.before.args.task c.before.before.if1.false c.if2.true
+pub returns-then-task-gt-MOST_TYPED-2 : goal.returns-then-task-gt-MOST_TYPED-2
+returns-then-task-gt-MOST_TYPED-2 c = period-over c.args.task c.if-task-gt-MOST_TYPED.false c.if-task-gt-MOST_TYPED-2.true
 
-returns-3 : tie.Need-returns-3
-returns-3 c = deadline-over c.before.before.before.before.before.before.args.task c.before.before.before.before.if1.false c.before.before.if2.false c.if3.true
+pub returns-then-task-gt-MOST_TYPED-3 : goal.returns-then-task-gt-MOST_TYPED-3
+returns-then-task-gt-MOST_TYPED-3 c = deadline-over c.args.task c.if-task-gt-MOST_TYPED.false c.if-task-gt-MOST_TYPED-2.false c.if-task-gt-MOST_TYPED-3.true
 
-returns-4 : tie.Need-returns-4
-returns-4 c = run-told c.before.before.before.before.before.before.before.args.task c.before.before.before.before.before.if1.false c.before.before.before.if2.false c.before.if3.false
-
-pub numbers-fit-spec : {M : Type 1} → statement M
-numbers-fit-spec = tie.close (tie.spec returns returns-2 returns-3 returns-4)
+pub returns : goal.returns
+returns c = run-told c.args.task c.if-task-gt-MOST_TYPED.false c.if-task-gt-MOST_TYPED-2.false c.if-task-gt-MOST_TYPED-3.false
