@@ -16,7 +16,7 @@ use Rattle.search.specs.Smallest.{smallest, number_found, Answers, IsSmallest}
 use Rattle.search.proofs.Smallest.{smallest_is}
 use Rattle.demand.specs.Priority.{Members, deadline_of}
 use Rattle.demand.specs.Releases.{period_of, cost_of}
-use Rattle.demand.specs.Test.{start, response}
+use Rattle.demand.specs.Test.{response}
 use Rattle.demand.specs.Meaning.{IsLate}
 use Rattle.demand.proofs.Demands.{sized_of, JobOf, job_of}
 use Rattle.demand.proofs.Meaning.{is_start, answers, every_verdict_means}
