@@ -3,10 +3,10 @@ use mathlib.Core.Path.{◌≡◌, refl, sym, ap, ◌∙◌, subst}
 use mathlib.Core.Bool.{Bool, true, false}
 use mathlib.Core.List.{List}
 use mathlib.Core.Logic.{◌≢◌}
-use Prim.Native.Nat.{ℕ, ◌+◌, ◌-◌, ◌%◌, ◌≤◌, ◌<◌}
-use native.Mathlib.Decide.{dec_lt, ℕ_discrete}
+use Prim.Native.Nat.{ℕ, ◌+◌, ◌-◌, ◌≤◌, ◌<◌}
+use native.Mathlib.Decide.{ℕ_discrete}
 use native.Mathlib.Omega.{arith}
-use lib.ListN.{length, get_or, set, length-set}
+use lib.ListN.{length, set, length-set}
 use lib.Seq.{get_or-set_same, get_or-set_other}
 use Rattle.laws.specs.Every.{every}
 use Rattle.laws.proofs.Every.{clash, every_none, every_more, every_stop}
@@ -18,7 +18,7 @@ use Rattle.asked.specs.Rows.{asked_by, blocking_in}
 use Rattle.asked.specs.Met.{UnmetBelow}
 use Rattle.verdict.specs.declared.Tested.{Tested}
 use Rattle.verdict.specs.Tested.{TestedAs}
-use Rattle.roster.specs.Keys.{key_at, number_at}
+use Rattle.roster.specs.Keys.{number_at}
 use Rattle.trial.specs.Known.{of_rank, Apart, Bounds, passes_at, verdict_at, OnlyRanks, TestedFrom}
 
 pub passes_is : (v : Verdict) → does_pass v ≡ true → v ≡ Passes (response_of v)

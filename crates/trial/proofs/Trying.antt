@@ -11,7 +11,6 @@ use lib.Seq.{get_or-set_other}
 use Rattle.laws.specs.Every.{every}
 use Rattle.laws.proofs.Every.{clash, every_at, every_all, every_stop}
 use Rattle.model.specs.Limits.{most_tasks}
-use Rattle.demand.specs.declared.Verdict.{Verdict}
 use Rattle.demand.specs.declared.Verdict.TheVariants.{Passes}
 use Rattle.demand.specs.Test.{does_pass, response_of}
 use Rattle.asked.specs.Rows.{RowsFit, blocking_in, whole}
@@ -20,7 +19,7 @@ use Rattle.verdict.specs.declared.Tested.{Tested}
 use Rattle.verdict.specs.Tested.{TestedAs}
 use Rattle.verdict.proofs.Full.{overfull_open, unmet_fails}
 use Rattle.roster.specs.Keys.{number_at}
-use Rattle.trial.specs.Known.{of_rank, Bounds, passes_at, verdict_at, OnlyRanks, TestedFrom, Shielded, OthersTested, KnownBefore, KnownAfter, TriedAs}
+use Rattle.trial.specs.Known.{of_rank, Bounds, passes_at, verdict_at, OnlyRanks, TestedFrom, Shielded, OthersTested, KnownBefore, TriedAs}
 use Rattle.trial.proofs.Testing.{passes_is, put_own, put_others, rank_kept, bounds_put}
 
 -- one that fails among some is enough
