@@ -3,7 +3,7 @@ use mathlib.Core.Path.{◌≡◌, sym, ap, ◌∙◌, subst}
 use mathlib.Core.Bool.{false}
 use mathlib.Core.List.{List}
 use mathlib.Core.Logic.{◌⊎◌, inl, inr}
-use Prim.Native.Nat.{ℕ, ◌+◌, ◌-◌, ◌≤◌, ◌<◌}
+use Prim.Native.Nat.{ℕ, ◌+◌, ◌≤◌, ◌<◌}
 use native.Mathlib.Omega.{arith}
 use Rattle.laws.proofs.Sums.{sum_more}
 use Rattle.laws.proofs.Growth.{sum_grows}
@@ -11,7 +11,7 @@ use Rattle.model.specs.Rules.{WithinLimits}
 use Rattle.demand.specs.Priority.{rank}
 use Rattle.demand.specs.Test.{verdict}
 use Rattle.demand.proofs.Membership.{rank_same, verdict_same}
-use Rattle.turns.specs.Turns.{width_of, home_at, is_unplaced}
+use Rattle.turns.specs.Turns.{home_at, is_unplaced}
 use Rattle.fitting.specs.Kinds.{Order, Partition, Done, Refused, OfCall, FirstFit, Placing, Outcome}
 use Rattle.fitting.specs.Steps.{nothing_placed, going_on, refusing, living_in, turns_taken, first_fit}
 use Rattle.fitting.specs.Claims.{volume_at, Placed, FirstFitPlaces, RefusedIn, FirstFitRefuses, FirstFitEnds}

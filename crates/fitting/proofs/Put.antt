@@ -9,7 +9,7 @@ use lib.Dec.{eqb}
 use lib.ListN.{length, set}
 use lib.Seq.{get_or-set_same, get_or-set_other}
 use borrow.Author.Tests.{eq-eqb, ne_eqb, eqb-true, eqb-false}
-use Rattle.laws.specs.Sums.{only, sum}
+use Rattle.laws.specs.Sums.{only}
 use Rattle.laws.proofs.Every.{count_each}
 use Rattle.laws.proofs.Sums.{sum_same, sum_in, sum_some}
 use Rattle.laws.proofs.Picked.{sum_with}

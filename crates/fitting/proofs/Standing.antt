@@ -2,7 +2,7 @@
 use mathlib.Core.Path.{◌≡◌, refl, sym, ap, ◌∙◌}
 use mathlib.Core.Bool.{Bool, true, false}
 use mathlib.Core.List.{List}
-use Prim.Native.Nat.{ℕ, ◌+◌, ◌-◌, ◌≤◌, ◌<◌}
+use Prim.Native.Nat.{ℕ, ◌+◌, ◌≤◌, ◌<◌}
 use native.Mathlib.Decide.{dec_lt, ℕ_discrete}
 use native.Mathlib.Omega.{arith}
 use lib.ListN.{length, get_or, set, replicate, length-set, get_or-replicate}
@@ -23,8 +23,8 @@ use Rattle.turns.proofs.Turns.{before_wide}
 use Rattle.fitting.specs.Kinds.{Order, Partition, Placing}
 use Rattle.fitting.specs.Steps.{nothing_placed, put, open_next, living_in, accepts}
 use Rattle.fitting.specs.Claims.{opened as opened_at, volume_at}
-use Rattle.fitting.specs.Standing.{waiting, Numbered, Laid, Wide, Stands}
-use Rattle.fitting.proofs.Put.{unplaced_says, placed_says, living_says, says_living, away_says, says_away, living_same, all_wait, put_here, put_other, put_placed, put-unplaced, put-waiting, living_kept}
+use Rattle.fitting.specs.Standing.{Numbered, Laid, Wide, Stands}
+use Rattle.fitting.proofs.Put.{unplaced_says, living_says, away_says, says_away, all_wait, put_here, put_other, put_placed, put-unplaced, put-waiting, living_kept}
 use Rattle.fitting.proofs.Accepts.{members_say}
 
 module _ (o : Order) (limits : WithinLimits o) (homes : List ℕ) (opened placed : ℕ) (was : Numbered o homes opened placed) (early : placed < o.tasks) (i : ℕ) (next : IsNext o homes o.tasks i) where

@@ -1,7 +1,6 @@
 -- Laws of the turns: each goes on with one task more placed, or refuses the task whose turn it is; n turns place all.
 use mathlib.Core.Path.{◌≡◌, refl, sym, ap, ◌∙◌, subst}
 use mathlib.Core.Bool.{false}
-use mathlib.Core.List.{List}
 use Prim.Native.Nat.{ℕ, zero, suc, ◌+◌, ◌-◌, ◌≤◌, ◌<◌}
 use native.Mathlib.Decide.{dec_le}
 use native.Mathlib.Numerals.{add-one}

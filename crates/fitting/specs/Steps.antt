@@ -1,5 +1,5 @@
 -- "First fit by decreasing volume", turn by turn, for the tasks of an order on its processors.
-use Rattle.std.specs.Prelude.{Bool, true, false, List, ℕ, zero, suc, ◌+◌, ◌-◌, leb, eqb, set, replicate}
+use Rattle.std.specs.Prelude.{Bool, true, List, ℕ, zero, suc, ◌+◌, ◌-◌, leb, eqb, set, replicate}
 use Rattle.laws.specs.Choice.{pick}
 use Rattle.laws.specs.Every.{every}
 use Rattle.model.specs.Limits.{most_tasks, most_partitions, zero_partition}
