@@ -1,9 +1,8 @@
 -- When members are released next, and what they ask until then.
-use mathlib.Core.Path.{◌≡◌, refl, sym, ap, ◌∙◌}
-use mathlib.Core.Bool.{Bool, true, false}
+use mathlib.Core.Path.{◌≡◌, refl, ap, ◌∙◌}
 use mathlib.Core.List.{List}
-use Prim.Native.Nat.{ℕ, ◌+◌, ◌-◌, ◌*◌, ◌/◌, ◌≤◌, ◌<◌}
-use native.Mathlib.Nat.{add-mul, one-mul, zero-mul, lt-div-mul-add, div-mul-le_self, div-eq_of_lt-le}
+use Prim.Native.Nat.{ℕ, ◌+◌, ◌*◌, ◌/◌, ◌≤◌, ◌<◌}
+use native.Mathlib.Nat.{add-mul, one-mul, lt-div-mul-add, div-mul-le_self, div-eq_of_lt-le}
 use native.Mathlib.Decide.{dec_lt}
 use native.Mathlib.Omega.{arith}
 use lib.Dec.{leb}
@@ -11,7 +10,6 @@ use lib.ListN.{get_or}
 use borrow.Author.Tests.{le-leb, lt-leb}
 use Rattle.laws.specs.Sums.{only, sum, least}
 use Rattle.laws.proofs.Sums.{sum_same, sum_add, least_in}
-use Rattle.model.specs.declared.order.Task.{Task}
 use Rattle.model.specs.Limits.{cost}
 use Rattle.demand.specs.Releases.{releases_by, work_by}
 use Rattle.asked.specs.Rows.{word_at, cost_at, row_task, RowsFit, asked_by}

@@ -1,20 +1,12 @@
 -- Laws of what rows ask: row by row, its growth, and its bounds.
-use mathlib.Core.Path.{◌≡◌, refl, sym, ap, ◌∙◌}
-use mathlib.Core.Bool.{Bool, true, false}
+use mathlib.Core.Path.{◌≡◌}
 use mathlib.Core.List.{List}
-use Prim.Native.Nat.{ℕ, ◌+◌, ◌-◌, ◌*◌, ◌/◌, ◌≤◌, ◌<◌}
-use native.Mathlib.Nat.{mul-le-mul_right}
+use Prim.Native.Nat.{ℕ, ◌+◌, ◌*◌, ◌≤◌, ◌<◌}
 use native.Mathlib.Omega.{arith}
-use lib.Dec.{leb}
-use lib.ListN.{get_or}
-use Rattle.laws.specs.Choice.{pick}
-use Rattle.laws.specs.Sums.{sum}
 use Rattle.laws.proofs.Sums.{sum_none, sum_more, sum_le}
 use Rattle.laws.proofs.Picked.{sum_most}
-use Rattle.model.specs.declared.order.Task.{Task}
 use Rattle.model.specs.Limits.{cost}
-use Rattle.model.specs.Rules.{Sized}
-use Rattle.demand.specs.Releases.{releases_by, work_by}
+use Rattle.demand.specs.Releases.{work_by}
 use Rattle.demand.proofs.Releases.{work_mono, work_most}
 use Rattle.demand.proofs.Over.{Grows}
 use Rattle.asked.specs.Rows.{row_task, RowsFit, asked_by}

@@ -2,22 +2,21 @@
 use mathlib.Core.Path.{◌≡◌, refl, sym, ap, ◌∙◌}
 use mathlib.Core.Bool.{Bool, true, false}
 use mathlib.Core.List.{List}
-use Prim.Native.Nat.{ℕ, zero, suc, ◌+◌, ◌-◌, ◌*◌, ◌/◌, ◌≤◌, ◌<◌, max}
-use native.Mathlib.Nat.{le-div_iff_mul-le, mul-le-mul_left, mul-le-mul_right, mul_comm, mul_assoc, mul-add, mul-zero, lt-div-mul-add, div-mul-le_self, add-mul, one-mul, le_antisymm}
-use native.Mathlib.Decide.{dec_le, dec_lt}
+use Prim.Native.Nat.{ℕ, zero, suc, ◌+◌, ◌-◌, ◌*◌, ◌/◌, ◌≤◌, ◌<◌}
+use native.Mathlib.Nat.{le-div_iff_mul-le, mul-le-mul_left, mul-le-mul_right, mul_comm, mul_assoc, mul-add, mul-zero, lt-div-mul-add, div-mul-le_self, add-mul, one-mul}
+use native.Mathlib.Decide.{dec_le}
 use native.Mathlib.Omega.{arith}
 use lib.Dec.{leb, ltb}
-use borrow.Author.Tests.{le-leb, lt-leb, leb-false, ltb-false}
+use borrow.Author.Tests.{leb-false}
 use Rattle.laws.specs.Choice.{pick}
 use Rattle.laws.specs.Sums.{sum}
-use Rattle.laws.proofs.Sums.{sum_none, sum_more, sum_le, sum_same}
+use Rattle.laws.proofs.Sums.{sum_none, sum_more, sum_le}
 use Rattle.laws.proofs.Picked.{sum_most}
 use Rattle.model.specs.declared.order.Task.{Task}
 use Rattle.model.specs.Limits.{cost}
 use Rattle.model.specs.Rules.{Sized}
 use Rattle.demand.specs.Releases.{releases_by, work_by}
 use Rattle.demand.proofs.Releases.{work_mono}
-use Rattle.asked.specs.declared.lines.Line.{Line}
 use Rattle.asked.specs.Rows.{word_at, row_task, share_at, whole, share_of, RowsFit, asked_by}
 use Rattle.asked.specs.Lines.{line_at, line_in, line_end}
 

@@ -11,7 +11,7 @@ use Rattle.model.specs.declared.order.Order.{Order}
 use Rattle.model.specs.Limits.{task_of}
 use Rattle.model.specs.Rules.{WithinLimits, Sized}
 use Rattle.model.proofs.Ranges.{sized}
-use Rattle.demand.specs.Priority.{Members, deadline_of, higher, lower}
+use Rattle.demand.specs.Priority.{Members, higher, lower}
 use Rattle.demand.specs.Releases.{period_of, cost_of, work_in, work_by}
 use Rattle.demand.specs.Test.{first_met, blocking, window_demand, window, higher_work, start_demand, start, response, worst, verdict}
 use Rattle.demand.specs.Meaning.{FirstMetAt, IsWindow, IsStart}

@@ -1,5 +1,5 @@
 -- What the test answers of a task alone, and that it looks at members alone.
-use mathlib.Core.Path.{◌≡◌, refl, ap, ap₂, ◌∙◌, fun_ext}
+use mathlib.Core.Path.{◌≡◌, refl, ap, ap₂, fun_ext}
 use mathlib.Core.Bool.{Bool, false, ◌||◌}
 use Prim.Native.Nat.{ℕ, zero, suc, ◌+◌, ◌-◌, ◌*◌, ◌≤◌, ◌<◌}
 use native.Mathlib.Nat.{zero-mul, one-mul, suc-mul, le_of_eq}

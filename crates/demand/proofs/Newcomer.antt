@@ -1,12 +1,11 @@
 -- A newcomer changes no verdict of a member that outranks it and is blocked as long already; and it closes no window sooner.
 use mathlib.Core.Path.{◌≡◌, refl, sym, ap, ◌∙◌}
 use mathlib.Core.Bool.{Bool, true, false, ◌&&◌, ◌||◌}
-use mathlib.Core.Logic.{⊎_elim}
 use Prim.Native.Nat.{ℕ, ◌+◌, ◌-◌, ◌≤◌, ◌<◌}
 use native.Mathlib.Decide.{ℕ_discrete}
 use native.Mathlib.Omega.{arith}
 use lib.Dec.{eqb}
-use Rattle.laws.specs.Sums.{only, sum, largest}
+use Rattle.laws.specs.Sums.{only, largest}
 use Rattle.laws.proofs.Only.{only_le}
 use Rattle.laws.proofs.Sums.{sum_le, largest_in, largest_le}
 use Rattle.model.specs.declared.order.Order.{Order}

@@ -1,16 +1,15 @@
 -- Windows and starts over any work of higher members that grows with w: what a window gives its jobs, and where searches may begin.
-use mathlib.Core.Path.{◌≡◌, refl, ap}
+use mathlib.Core.Path.{◌≡◌, refl}
 use Prim.Native.Nat.{ℕ, zero, suc, ◌+◌, ◌-◌, ◌*◌, ◌≤◌, ◌<◌}
 use native.Mathlib.Nat.{mul-le-mul_right, add-mul, one-mul, zero-mul}
 use native.Mathlib.Decide.{dec_le}
 use native.Mathlib.Omega.{arith}
 use Rattle.model.specs.declared.order.Task.{Task}
-use Rattle.model.specs.Limits.{horizon, cost}
+use Rattle.model.specs.Limits.{cost}
 use Rattle.search.specs.declared.Found.{Found}
 use Rattle.search.specs.declared.Found.TheVariants.{At, Nothing}
-use Rattle.demand.specs.Releases.{work_by}
 use Rattle.demand.specs.Test.{first_met}
-use Rattle.demand.specs.Meaning.{FirstMetAt, NeverMet}
+use Rattle.demand.specs.Meaning.{FirstMetAt}
 use Rattle.demand.specs.Over.{start_over, window_over, job_base}
 use Rattle.demand.proofs.Releases.{work_mono, work_few, work_spaced}
 use Rattle.demand.proofs.FirstMet.{met_says}

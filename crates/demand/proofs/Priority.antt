@@ -13,7 +13,7 @@ use Rattle.laws.proofs.Every.{clash}
 use Rattle.laws.proofs.Only.{only_le}
 use Rattle.laws.proofs.Picked.{sum_most, sum_with}
 use Rattle.model.specs.declared.order.Order.{Order}
-use Rattle.demand.specs.Priority.{Members, deadline_of, outranks, higher, lower, rank}
+use Rattle.demand.specs.Priority.{Members, deadline_of, outranks, higher, rank}
 
 -- what it is to outrank
 abbrev pub Outranks : Order → (j i : ℕ) → Type 0

@@ -1,16 +1,12 @@
 -- Laws of one more put in, and of sums cut in two.
-use mathlib.Core.Path.{◌≡◌, refl, sym, ap, ◌∙◌}
+use mathlib.Core.Path.{◌≡◌, refl, ap, ◌∙◌}
 use Prim.Native.Nat.{ℕ, zero, suc, ◌+◌, ◌-◌, ◌≤◌, ◌<◌}
-use native.Mathlib.Decide.{dec_le, dec_lt}
 use native.Mathlib.Nat.{add-zero, add-suc}
-use native.Mathlib.Numerals.{add-one}
 use native.Mathlib.Omega.{arith}
-use lib.Dec.{ltb, eqb}
 use borrow.Author.Tests.{lt-ltb, le-ltb, eq-eqb, ne_eqb}
-use Rattle.laws.specs.Choice.{pick}
 use Rattle.laws.specs.Joined.{inserted_at}
 use Rattle.laws.specs.Sums.{sum}
-use Rattle.laws.proofs.Sums.{sum_suc, sum_same, sum_zero}
+use Rattle.laws.proofs.Sums.{sum_same, sum_zero}
 
 module _ {A : Type 0} (p : ℕ) (x : A) (f : ℕ → A) where
   pub inserted_before : (r : ℕ) → r < p → inserted_at p x f r ≡ f r

@@ -1,11 +1,11 @@
 -- Laws of a list whose front is written over.
-use mathlib.Core.Path.{◌≡◌, refl, sym, ap, ◌∙◌}
+use mathlib.Core.Path.{◌≡◌, refl, ap, ◌∙◌}
 use mathlib.Core.List.{List, [], ◌∷◌, ◌++◌}
-use Prim.Native.Nat.{ℕ, zero, suc, ◌+◌, ◌-◌, ◌≤◌, ◌<◌}
+use Prim.Native.Nat.{ℕ, suc, ◌+◌, ◌-◌, ◌≤◌, ◌<◌}
 use native.Mathlib.Numerals.{add-one}
 use native.Mathlib.Omega.{arith}
 use lib.ListN.{length, get_or, set, drop, length-append, length-drop, get_or-append}
-use lib.Seq.{set_at, append_snoc, get_or-append-add, drop_at, drop-drop, drop-append-le, get_or-drop, drop-cons}
+use lib.Seq.{set_at, append_snoc, get_or-append-add, drop_at, get_or-drop, drop-cons}
 use Rattle.laws.specs.Joined.{joined, listed, overlaid}
 use Rattle.laws.proofs.Joined.{joined_same, length-listed, listed_more, get_or-listed}
 

@@ -1,12 +1,11 @@
 -- The last job started is the one that runs.
-use Prim.Native.Nat.{ℕ, zero, suc, ◌-◌}
-use mathlib.Core.Path.{◌≡◌, refl, sym, ap, ◌∙◌}
+use Prim.Native.Nat.{ℕ, zero, suc}
+use mathlib.Core.Path.{◌≡◌, refl, ◌∙◌}
 use mathlib.Core.List.{List, [], ◌∷◌}
 use mathlib.Core.Option.{Option, none, some}
 use native.Mathlib.Omega.{arith}
 use Rattle.model.specs.declared.order.Order.{Order}
-use Rattle.demand.specs.Priority.{Members}
-use Rattle.machine.specs.Step.{Pattern, Job, Waiting, Running, free, runs, State, ended, passed, highest, oldest_starts, starts, starts_if_free, joining, of_members, during_tick, step, state_before}
+use Rattle.machine.specs.Step.{Job, Waiting, Running, free, runs, ended, passed, highest, oldest_starts, starts, starts_if_free, joining, of_members, during_tick, step, state_before}
 use Rattle.machine.specs.Claims.{RanLast}
 
 module _ (o : Order) (waiting : Waiting) (last : Option ℕ) where

@@ -1,5 +1,5 @@
 -- The step machine of one partition, in the order and the words of document 01, "The step machine".
-use Rattle.std.specs.Prelude.{ℕ, zero, suc, ◌-◌, ◌≡◌, Bool, List, [], ◌∷◌, ◌++◌, eqb}
+use Rattle.std.specs.Prelude.{ℕ, zero, suc, ◌-◌, ◌≡◌, List, [], ◌∷◌, ◌++◌, eqb}
 use Rattle.std.proofs.Math.Option.{Option, none, some}
 use Rattle.laws.specs.Choice.{pick}
 use Rattle.laws.specs.Sums.{only}

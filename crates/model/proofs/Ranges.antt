@@ -1,13 +1,12 @@
 -- 7 to 10 of one task, and task by task: they hold exactly where each task is in range; and what that says of its cost.
 use mathlib.Core.Path.{◌≡◌}
 use mathlib.Core.List.{List}
-use Prim.Native.Nat.{ℕ, ◌+◌, ◌≤◌, ◌<◌}
-use native.Mathlib.Omega.{arith}
+use Prim.Native.Nat.{ℕ, ◌+◌, ◌<◌}
 use Rattle.laws.specs.Joined.{joined}
 use Rattle.model.specs.Kinds.{Task, Order, Done, Refused, Refusal}
 use Rattle.model.specs.Limits.{task_of}
 use Rattle.model.specs.Rules.{Rule, first_broken, AllKept, TestsTell, task_rules, range_rules, TaskInRange, Sized}
-use Rattle.model.proofs.Rules.{AllPass, done_pass, kept_pass, pass_kept, kept_at, kept_all, scan_none, scan_more, scan_stop, tell_all, in_range_tells}
+use Rattle.model.proofs.Rules.{AllPass, done_pass, kept_at, kept_all, scan_none, scan_more, scan_stop, tell_all, in_range_tells}
 
 pub kept_range : (processors : ℕ) (t : Task) (i : ℕ) → AllKept (task_rules processors t i) → TaskInRange processors t
 unfolding AllKept

@@ -1,7 +1,7 @@
 -- Laws of the first of k numbers from 0 that passes.
 use mathlib.Core.Path.{◌≡◌, refl, sym, ap, ◌∙◌, subst}
 use mathlib.Core.Bool.{Bool, true, false}
-use Prim.Native.Nat.{ℕ, zero, suc, ◌-◌, ◌≤◌, ◌<◌}
+use Prim.Native.Nat.{ℕ, zero, suc, ◌<◌}
 use native.Mathlib.Omega.{arith}
 use Rattle.search.specs.Smallest.{Found, At, Nothing, first_of, smallest, Answers}
 use Rattle.search.proofs.Smallest.{smallest_at, smallest_none, smallest_is}

@@ -1,10 +1,9 @@
 use borrow.Author.Rules.{rules}
 use native.Mathlib.Decide.{dec_lt}
 use native.Mathlib.Omega.{arith}
-use mathlib.Core.Path.{◌≡◌, refl, ap, ◌∙◌}
+use mathlib.Core.Path.{◌≡◌, ap, ◌∙◌}
 use Prim.Native.Nat.{◌+◌, ◌≤◌}
 use Rattle.asked.specs.declared.lines.Line.{Line}
-use Rattle.asked.specs.Rows.{asked_by}
 use Rattle.asked.specs.Lines.{line_in, line_end}
 use Rattle.asked.proofs.Rows.{asked_most}
 use Rattle.asked.proofs.Slopes.{line_rest, unmet_to_line}

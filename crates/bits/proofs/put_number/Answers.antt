@@ -1,8 +1,7 @@
 use borrow.Author.Rules.{rules}
-use Prim.Native.Nat.{◌≤◌}
-use mathlib.Core.Path.{◌≡◌, refl}
-use lib.ListN.{length, length-set}
-use Rattle.bits.proofs.Records.{WrittenFrom, written_none, written_more, written_all}
+use mathlib.Core.Path.{refl}
+use lib.ListN.{length-set}
+use Rattle.bits.proofs.Records.{written_none, written_more, written_all}
 use Rattle.bits.proofs.put_number.Goals as goal
 
 pub loop-i-init : goal.loop-i-init

@@ -1,8 +1,7 @@
-use borrow.Author.Rules.{rules}
 use Prim.Native.Nat.{◌≤◌}
-use mathlib.Core.Path.{◌≡◌, refl}
-use lib.ListN.{length, length-set}
-use Rattle.bits.proofs.Records.{WrittenFrom, written_none, written_more, written_all}
+use mathlib.Core.Path.{◌≡◌}
+use lib.ListN.{length}
+use Rattle.bits.proofs.Records.{WrittenFrom}
 use Rattle.bits.proofs.put_number.Given as goal
 
 abbrev pub invariant-loop-i : goal.invariant-loop-i

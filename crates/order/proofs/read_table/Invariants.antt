@@ -1,15 +1,9 @@
-use borrow.Author.Rules.{rules}
-use lib.ListN.{replicate}
 use Prim.Native.Nat.{◌≤◌, ◌-◌}
-use mathlib.Core.Path.{◌≡◌, sym, ap, ◌∙◌}
-use native.Mathlib.Nat.{le_antisymm}
-use native.Mathlib.Omega.{arith}
+use mathlib.Core.Path.{◌≡◌}
 use Rattle.laws.specs.Joined.{filled}
-use Rattle.laws.proofs.Joined.{filled_none, filled_more}
 use Rattle.model.specs.Limits.{most_tasks, zero_task}
-use Rattle.model.proofs.Rules.{AllPass, pass_done, never}
+use Rattle.model.proofs.Rules.{AllPass}
 use Rattle.order.specs.Order.{task_start, task_at, spare_rules}
-use Rattle.order.proofs.Rules.{spare_none, spare_more, spare_stop}
 use Rattle.order.proofs.read_table.Given as goal
 
 abbrev pub invariant-loop-i : goal.invariant-loop-i

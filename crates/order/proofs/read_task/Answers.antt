@@ -1,4 +1,3 @@
-use borrow.Author.Rules.{rules}
 use native.Mathlib.Omega.{arith}
 use Rattle.bits.specs.Layout.{numbers_at}
 use Rattle.order.specs.Order.{task_fields}

@@ -1,6 +1,6 @@
 use borrow.Author.Rules.{rules}
 use native.Mathlib.Omega.{arith}
-use Rattle.put.proofs.Counted.{Counted, counted_none, counted_more, counted_all}
+use Rattle.put.proofs.Counted.{counted_none, counted_more, counted_all}
 use Rattle.put.proofs.digits_in.Goals as goal
 
 pub loop-left-init : goal.loop-left-init

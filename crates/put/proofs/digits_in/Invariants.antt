@@ -1,6 +1,4 @@
-use borrow.Author.Rules.{rules}
-use native.Mathlib.Omega.{arith}
-use Rattle.put.proofs.Counted.{Counted, counted_none, counted_more, counted_all}
+use Rattle.put.proofs.Counted.{Counted}
 use Rattle.put.proofs.digits_in.Given as goal
 
 abbrev pub invariant-loop-left : goal.invariant-loop-left

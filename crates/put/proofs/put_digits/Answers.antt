@@ -1,8 +1,7 @@
 use borrow.Author.Rules.{rules}
-use Prim.Native.Nat.{◌≤◌}
-use mathlib.Core.Path.{◌≡◌, refl}
-use lib.ListN.{length, length-set}
-use Rattle.put.proofs.Put.{DigitsFrom, digits_none, digits_more, digits_all}
+use mathlib.Core.Path.{refl}
+use lib.ListN.{length-set}
+use Rattle.put.proofs.Put.{digits_none, digits_more, digits_all}
 use Rattle.put.proofs.put_digits.Goals as goal
 
 pub loop-i-init : goal.loop-i-init

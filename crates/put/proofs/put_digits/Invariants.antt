@@ -1,8 +1,7 @@
-use borrow.Author.Rules.{rules}
 use Prim.Native.Nat.{◌≤◌}
-use mathlib.Core.Path.{◌≡◌, refl}
-use lib.ListN.{length, length-set}
-use Rattle.put.proofs.Put.{DigitsFrom, digits_none, digits_more, digits_all}
+use mathlib.Core.Path.{◌≡◌}
+use lib.ListN.{length}
+use Rattle.put.proofs.Put.{DigitsFrom}
 use Rattle.put.proofs.put_digits.Given as goal
 
 abbrev pub invariant-loop-i : goal.invariant-loop-i

@@ -1,4 +1,3 @@
-use borrow.Author.Rules.{rules}
 use native.Mathlib.Omega.{arith}
 use Rattle.form.specs.Written.{numeral}
 use Rattle.form.proofs.Written.{length-numeral}

@@ -1,4 +1,3 @@
-use borrow.Author.Rules.{rules}
 use Rattle.sets.proofs.is_low.Goals as goal
 
 pub returns-then-there : goal.returns-then-there

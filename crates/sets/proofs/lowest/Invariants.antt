@@ -1,14 +1,8 @@
-use borrow.Author.Rules.{rules}
 use Prim.Native.Nat.{◌-◌, ◌≤◌}
-use native.Mathlib.Nat.{le_antisymm}
-use native.Mathlib.Omega.{arith}
-use mathlib.Core.Path.{◌≡◌, sym, ap, ◌∙◌}
-use Rattle.laws.specs.Sums.{only}
-use Rattle.laws.proofs.Sums.{sum_none, sum_more}
-use Rattle.laws.proofs.Only.{only_le}
+use mathlib.Core.Path.{◌≡◌}
 use Rattle.model.specs.Limits.{most_processors}
-use Rattle.sets.specs.Sets.{has, processors_below}
-use Rattle.sets.proofs.Chosen.{chosen_below, chosen_none, chosen_more, is_low, processors_most, lowest_all}
+use Rattle.sets.specs.Sets.{processors_below}
+use Rattle.sets.proofs.Chosen.{chosen_below, is_low}
 use Rattle.sets.proofs.lowest.Given as goal
 
 abbrev pub invariant-loop-processor : goal.invariant-loop-processor

@@ -1,4 +1,3 @@
-use borrow.Author.Rules.{rules}
 use borrow.Author.Tests.{le-leb, lt-leb, le-ltb, lt-ltb}
 use Rattle.asked.specs.Lines.{line_end}
 use Rattle.asked.proofs.lines.line_end.Goals as goal

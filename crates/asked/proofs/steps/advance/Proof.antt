@@ -5,7 +5,7 @@ use mathlib.Core.Path.{◌≡◌, refl, sym, ap, ◌∙◌}
 use Prim.Native.Nat.{ℕ, ◌+◌, ◌-◌, ◌*◌, ◌≤◌, ◌<◌}
 use mathlib.Core.List.{List}
 use lib.Dec.{leb}
-use lib.ListN.{length, get_or}
+use lib.ListN.{get_or}
 use Rattle.laws.specs.Joined.{overlaid}
 use Rattle.laws.specs.Sums.{only, sum, least}
 use Rattle.laws.proofs.Only.{only_le}

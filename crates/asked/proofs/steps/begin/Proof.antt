@@ -1,18 +1,17 @@
 use borrow.Author.Rules.{rules}
-use native.Mathlib.Nat.{le_antisymm, mul-le-mul, div-le_self}
+use native.Mathlib.Nat.{le_antisymm}
 use native.Mathlib.Omega.{arith}
 use mathlib.Core.Path.{◌≡◌, refl, sym, ap, ◌∙◌}
-use Prim.Native.Nat.{ℕ, ◌+◌, ◌-◌, ◌*◌, ◌/◌, ◌≤◌, ◌<◌}
-use lib.ListN.{length}
+use Prim.Native.Nat.{ℕ, ◌+◌, ◌-◌, ◌*◌, ◌/◌, ◌≤◌}
 use Rattle.laws.specs.Joined.{overlaid}
 use Rattle.laws.specs.Sums.{least}
 use Rattle.laws.proofs.Sums.{least_none, least_more}
-use Rattle.laws.proofs.Overlaid.{overlaid_none, overlaid_more, length-overlaid}
+use Rattle.laws.proofs.Overlaid.{overlaid_none, overlaid_more}
 use Rattle.model.specs.Limits.{cost}
 use Rattle.demand.specs.Releases.{work_by, releases_by}
 use Rattle.asked.specs.Rows.{asked_by, word_at}
 use Rattle.asked.specs.Steps.{far, due_after}
-use Rattle.asked.proofs.Rows.{fit_fewer, asked_none, asked_more, asked_most, cost_most}
+use Rattle.asked.proofs.Rows.{fit_fewer, asked_none, asked_more, asked_most}
 use Rattle.asked.proofs.Dues.{due_near}
 use Rattle.asked.proofs.steps.begin.Statement.{statement}
 use Rattle.asked.proofs.steps.begin.Tie as tie

@@ -1,4 +1,3 @@
-use borrow.Author.Rules.{rules}
 use native.Mathlib.Nat.{div-le_self, div-eq_of_lt}
 use native.Mathlib.Omega.{arith}
 use Rattle.asked.proofs.steps.releases_by.Goals as goal

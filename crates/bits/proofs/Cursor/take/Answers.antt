@@ -1,4 +1,3 @@
-use borrow.Author.Rules.{rules}
 use Prim.Native.Nat.{◌+◌, ◌-◌, ◌*◌, ◌/◌}
 use native.Mathlib.Nat.{mod-lt, lt_of_lt_of_le}
 use native.Mathlib.Omega.{arith}

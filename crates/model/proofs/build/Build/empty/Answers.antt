@@ -1,4 +1,3 @@
-use borrow.Author.Rules.{rules}
 use Rattle.model.proofs.build.Build.empty.Goals as goal
 
 pub returns : goal.returns

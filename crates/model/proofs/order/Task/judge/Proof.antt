@@ -1,9 +1,8 @@
 use borrow.Author.Rules.{rules}
-use borrow.Author.Tests.{not-true, not-false}
 use mathlib.Core.Path.{◌≡◌, sym, ap, ◌∙◌}
 use mathlib.Core.Bool.{true}
 use Rattle.laws.specs.Choice.{within as in_range}
-use Rattle.model.specs.Limits.{most_period, cost}
+use Rattle.model.specs.Limits.{most_period}
 use Rattle.model.specs.Rules.{first_broken}
 use Rattle.model.proofs.order.Task.judge.Statement.{statement}
 use Rattle.model.proofs.order.Task.judge.Tie as tie
