@@ -1,4 +1,4 @@
-// The C surface, libjefkantu.a: each answer as one word, and the caller's memory.
+// The C surface as functions of a library: each answer as one word, and the caller's memory. jefkantu_c exports them.
 #![tactic(auto)]
 
 ghost use Rattle.std.specs.Prelude.{◌≡◌};
@@ -51,8 +51,7 @@ fn order_numbers(order: Order) -> [u32; ORDER_NUMBERS]
 }
 
 // Reads an order; the numbers are written only where it is accepted.
-#[unsafe(no_mangle)]
-pub extern "C" fn jefkantu_read_order(order: &[u8], numbers: &mut [u32; ORDER_NUMBERS]) -> u64
+pub fn jefkantu_read_order(order: &[u8], numbers: &mut [u32; ORDER_NUMBERS]) -> u64
     ensures { ReadsOrder order.now numbers.old result numbers.new }
 {
     let reading = order::read_order(order);
@@ -66,8 +65,7 @@ pub extern "C" fn jefkantu_read_order(order: &[u8], numbers: &mut [u32; ORDER_NU
 }
 
 // Writes M and the columns as an order into the front of the output.
-#[unsafe(no_mangle)]
-pub extern "C" fn jefkantu_write_order(
+pub fn jefkantu_write_order(
     processors: u32,
     widths: &[u32],
     periods: &[u32],
@@ -82,8 +80,7 @@ pub extern "C" fn jefkantu_write_order(
 }
 
 // Plans an order: its build into the front of the output.
-#[unsafe(no_mangle)]
-pub extern "C" fn jefkantu_plan(order: &[u8], out: &mut [u8]) -> u64
+pub fn jefkantu_plan(order: &[u8], out: &mut [u8]) -> u64
     ensures { PlansBuild order.now out.old result out.new }
 {
     let answer = plan::plan(order, out);
@@ -91,8 +88,7 @@ pub extern "C" fn jefkantu_plan(order: &[u8], out: &mut [u8]) -> u64
 }
 
 // Checks a build against an order.
-#[unsafe(no_mangle)]
-pub extern "C" fn jefkantu_check(order: &[u8], build: &[u8]) -> u64
+pub fn jefkantu_check(order: &[u8], build: &[u8]) -> u64
     ensures { ChecksBuild order.now build.now result }
 {
     let answer = inspect::check(order, build);
@@ -100,8 +96,7 @@ pub extern "C" fn jefkantu_check(order: &[u8], build: &[u8]) -> u64
 }
 
 // Runs a release script through a build: a finish tick for each record, into the front of the output.
-#[unsafe(no_mangle)]
-pub extern "C" fn jefkantu_run(order: &[u8], build: &[u8], script: &[u8], out: &mut [u32]) -> u64
+pub fn jefkantu_run(order: &[u8], build: &[u8], script: &[u8], out: &mut [u32]) -> u64
     ensures { RunsScript order.now build.now script.now out.old result out.new }
 {
     let answer = run::run(order, build, script, out);
@@ -109,8 +104,7 @@ pub extern "C" fn jefkantu_run(order: &[u8], build: &[u8], script: &[u8], out: &
 }
 
 // Reads the order form's text beside M: the order's bytes into the front of the output.
-#[unsafe(no_mangle)]
-pub extern "C" fn jefkantu_read_text(processors: u32, text: &[u8], out: &mut [u8]) -> u64
+pub fn jefkantu_read_text(processors: u32, text: &[u8], out: &mut [u8]) -> u64
     ensures { ReadsForm processors text.now out.old result out.new }
 {
     let answer = text::read_text(processors, text, out);
@@ -118,8 +112,7 @@ pub extern "C" fn jefkantu_read_text(processors: u32, text: &[u8], out: &mut [u8
 }
 
 // Writes the text of an order into the front of the output.
-#[unsafe(no_mangle)]
-pub extern "C" fn jefkantu_write_text(order: &[u8], out: &mut [u8]) -> u64
+pub fn jefkantu_write_text(order: &[u8], out: &mut [u8]) -> u64
     ensures { WritesForm order.now out.old result out.new }
 {
     let answer = text_out::write_text(order, out);
@@ -127,8 +120,7 @@ pub extern "C" fn jefkantu_write_text(order: &[u8], out: &mut [u8]) -> u64
 }
 
 // Writes a set of processors as a list into the front of the output.
-#[unsafe(no_mangle)]
-pub extern "C" fn jefkantu_write_list(set: u64, out: &mut [u8]) -> u64
+pub fn jefkantu_write_list(set: u64, out: &mut [u8]) -> u64
     ensures { WritesSet set out.old result out.new }
 {
     let answer = list_out::write_list(set, out);
@@ -136,8 +128,7 @@ pub extern "C" fn jefkantu_write_list(set: u64, out: &mut [u8]) -> u64
 }
 
 // Reads a list of processors; the set is written only where it is accepted.
-#[unsafe(no_mangle)]
-pub extern "C" fn jefkantu_read_list(text: &[u8], set: &mut u64) -> u64
+pub fn jefkantu_read_list(text: &[u8], set: &mut u64) -> u64
     ensures { ReadsSet text.now set.old result set.new }
 {
     let reading = list::read_list(text);
@@ -149,8 +140,7 @@ pub extern "C" fn jefkantu_read_list(text: &[u8], set: &mut u64) -> u64
 }
 
 // The set of each partition of an accepted build, into the front of the output.
-#[unsafe(no_mangle)]
-pub extern "C" fn jefkantu_partition_sets(order: &[u8], build: &[u8], out: &mut [u64]) -> u64
+pub fn jefkantu_partition_sets(order: &[u8], build: &[u8], out: &mut [u64]) -> u64
     ensures { GivesPartitionSets order.now build.now out.old result out.new }
 {
     let answer = partition_sets::partition_sets(order, build, out);
@@ -158,8 +148,7 @@ pub extern "C" fn jefkantu_partition_sets(order: &[u8], build: &[u8], out: &mut 
 }
 
 // For a build that the check refuses 29, a script in which a job of the named task is late, into the front of the output.
-#[unsafe(no_mangle)]
-pub extern "C" fn jefkantu_late(order: &[u8], build: &[u8], out: &mut [u8]) -> u64
+pub fn jefkantu_late(order: &[u8], build: &[u8], out: &mut [u8]) -> u64
     ensures { ShowsLateScript order.now build.now out.old result out.new }
 {
     let answer = late::late(order, build, out);

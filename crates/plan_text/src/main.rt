@@ -2,47 +2,62 @@
 #![tactic(auto)]
 
 use model::{Answer, Order};
+use std::env::{Env, FillError};
+use std::io;
 
 // One byte more than the longest text that is taken.
 const MOST_READ: usize = 65_536;
 
-fn show_usage() {
-    io::write_all(2, b"usage: plan_text M < TEXT\n");
+// The longest argument that is taken.
+const MOST_ARGUMENT: usize = 4_096;
+
+fn show_usage(rt: &impl Eprint) -> io::Result<()> {
+    eprintln!(rt; "usage: plan_text M < TEXT")
 }
 
-fn show_too_long() {
-    io::write_all(2, b"standard input has more than 65,535 bytes\n");
+fn show_too_long(rt: &impl Eprint) -> io::Result<()> {
+    eprintln!(rt; "standard input has more than 65,535 bytes")
 }
 
-fn plan_typed(processors: u32, text: &[u8]) {
+fn plan_typed(rt: &(impl Print + Eprint), processors: u32, text: &[u8]) -> io::Result<()> {
     let mut order = [0u8; Order::MOST_BYTES];
     let answer = text::read_text(processors, text, &mut order);
     match answer {
-        Answer::Done(size) => show::show_plan(&order[..size as usize]),
-        Answer::Refused(cause) => show::show_refusal(cause),
+        Answer::Done(size) => show::show_plan(rt, &order[..size as usize]),
+        Answer::Refused(cause) => show::show_refusal(rt, cause),
     }
 }
 
-fn plan_input(processors: u32) {
-    let mut text = io::large_buffer();
-    let size = io::read_full(0, &mut text);
+fn plan_input(rt: &(impl Input + Print + Eprint), processors: u32) -> io::Result<()> {
+    let mut text = [0u8; MOST_READ];
+    let mut input = rt.reader();
+    let size = show::read_full(&mut input, &mut text);
     if size == MOST_READ {
-        show_too_long();
-    } else if show::has_ended() {
-        plan_typed(processors, &text[..size]);
+        show_too_long(rt)
+    } else if show::has_ended(&mut input) {
+        plan_typed(rt, processors, &text[..size])
     } else {
-        show::show_unreadable();
+        show::show_unreadable(rt)
     }
+}
+
+// Whether there is no such argument, not even an empty one.
+fn lacks_argument(rt: &impl Env, number: usize) -> bool {
+    let mut start = [0u8; 1];
+    matches!(rt.arg(number, &mut start), Err(FillError::NotPresent))
 }
 
 // M is digits to its end; an argument that is missing or too long has no bytes here.
-fn main() {
-    let mut argument = io::buffer();
-    let size = os::arg(1, &mut argument);
+fn main(rt: HostRuntime) -> io::Result<()> {
+    let mut argument = [0u8; MOST_ARGUMENT];
+    let size = match rt.arg(1, &mut argument) {
+        Ok(size) => size,
+        Err(_) => 0,
+    };
     let digits = typed::take_digits(&argument[..size], 0);
-    if os::arg_count() == 2 && size > 0 && digits.next == size {
-        plan_input(digits.value);
+    if lacks_argument(&rt, 2) && size > 0 && digits.next == size {
+        plan_input(&rt, digits.value)
     } else {
-        show_usage();
+        show_usage(&rt)
     }
 }

@@ -2,16 +2,18 @@
 #![tactic(auto)]
 
 use model::Order;
+use std::io;
 
 // One byte more than the longest order, so that a longer input is refused.
 const MOST_READ: usize = Order::MOST_BYTES + 1;
 
-fn main() {
+fn main(rt: HostRuntime) -> io::Result<()> {
     let mut order = [0u8; MOST_READ];
-    let size = io::read_full(0, &mut order);
-    if size == MOST_READ || show::has_ended() {
-        show::show_plan(&order[..size]);
+    let mut input = rt.reader();
+    let size = show::read_full(&mut input, &mut order);
+    if size == MOST_READ || show::has_ended(&mut input) {
+        show::show_plan(&rt, &order[..size])
     } else {
-        show::show_unreadable();
+        show::show_unreadable(&rt)
     }
 }
