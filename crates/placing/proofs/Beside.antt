@@ -3,13 +3,12 @@ use mathlib.Core.Path.{◌≡◌, refl, sym, ap, ◌∙◌, subst}
 use mathlib.Core.Bool.{Bool, true, false, not, ◌&&◌}
 use mathlib.Core.List.{List}
 use mathlib.Core.Logic.{◌≢◌}
-use Prim.Native.Nat.{ℕ, ◌+◌, ◌-◌, ◌≤◌, ◌<◌}
+use Prim.Native.Nat.{ℕ, ◌+◌, ◌≤◌, ◌<◌}
 use native.Mathlib.Decide.{ℕ_discrete}
 use native.Mathlib.Omega.{arith}
 use lib.Dec.{eqb}
-use lib.ListN.{length, get_or, set, length-set}
-use borrow.Author.Tests.{eq-eqb, ne_eqb, eqb-true, eqb-false}
-use Rattle.laws.specs.Sums.{only, sum, largest}
+use lib.ListN.{length, get_or, set}
+use Rattle.laws.specs.Sums.{only}
 use Rattle.laws.specs.Every.{every}
 use Rattle.laws.proofs.Choice.{same_test}
 use Rattle.laws.proofs.Every.{clash, both_and, every_at, every_all}
@@ -24,21 +23,21 @@ use Rattle.demand.specs.Releases.{cost_of, work_by}
 use Rattle.demand.specs.Test.{blocking, higher_work, verdict, does_pass}
 use Rattle.demand.proofs.Membership.{verdict_same}
 use Rattle.demand.proofs.Newcomer.{blocking_more, newcomer_below}
-use Rattle.asked.specs.Rows.{word_at, cost_at, asked_by, blocking_in, RowsFit}
+use Rattle.asked.specs.Rows.{cost_at, asked_by, blocking_in, RowsFit}
 use Rattle.asked.specs.Met.{UnmetBelow}
-use Rattle.trial.specs.Known.{of_rank, Bounds, verdict_at, passes_at, Shielded, KnownBefore, KnownAfter, TriedAs}
+use Rattle.trial.specs.Known.{of_rank, verdict_at, passes_at, Shielded, KnownBefore, KnownAfter}
 use Rattle.roster.specs.Keys.{key_of, key_number, key_at, number_at, spot_for, with_key}
-use Rattle.roster.specs.Rows.{RowOf, RowsByNumber, RowsInLine}
+use Rattle.roster.specs.Rows.{RowsByNumber, RowsInLine}
 use Rattle.roster.specs.Ranked.{Ranked, RowsOf}
 use Rattle.roster.specs.Lined.{Lined, PartFrom, part_size}
 use Rattle.laws.proofs.Inserted.{inserted_here}
 use Rattle.roster.proofs.Line.{spot_most}
 use Rattle.roster.proofs.Ranks.{place_of}
 use Rattle.roster.proofs.Tied.{rows_fit, asked_with, blocking_is, verdict_is}
-use Rattle.roster.proofs.Lining.{number_of_key, lined_same, one_place, ranked_in, lined_with, put_here as key_here, lined_part}
-use Rattle.turns.specs.Turns.{unplaced, home_at, is_unplaced}
-use Rattle.fitting.specs.Steps.{living_in, members_pass, accepts}
-use Rattle.fitting.proofs.Put.{unplaced_says, living_says, says_living, away_says, says_away, living_same, put_here, put_other, put-unplaced, living_kept}
+use Rattle.roster.proofs.Lining.{number_of_key, lined_same, one_place, ranked_in, lined_with, lined_part}
+use Rattle.turns.specs.Turns.{home_at, is_unplaced}
+use Rattle.fitting.specs.Steps.{living_in, accepts}
+use Rattle.fitting.proofs.Put.{unplaced_says, living_says, says_living, says_away, living_same, put_here, put_other, put-unplaced, living_kept}
 use Rattle.fitting.proofs.Accepts.{members_say, say_members}
 use Rattle.placing.specs.Known.{OpenUntil, Known, InLine}
 

@@ -1,22 +1,19 @@
 -- The opened partitions tried in turn: none so far takes the task, and nothing has changed.
 use mathlib.Core.Path.{◌≡◌, refl, sym, ap, ◌∙◌, subst}
-use mathlib.Core.Bool.{Bool, true, false}
+use mathlib.Core.Bool.{true, false}
 use mathlib.Core.List.{List}
-use Prim.Native.Nat.{ℕ, ◌+◌, ◌-◌, ◌≤◌, ◌<◌}
+use Prim.Native.Nat.{ℕ, ◌+◌, ◌≤◌, ◌<◌}
 use native.Mathlib.Decide.{ℕ_discrete}
 use native.Mathlib.Omega.{arith}
-use lib.ListN.{get_or, set}
-use Rattle.laws.proofs.Every.{clash}
-use Rattle.search.specs.declared.Found.{Found}
+use lib.ListN.{set}
 use Rattle.search.specs.declared.Found.TheVariants.{At, Nothing}
-use Rattle.search.proofs.First.{IsFirst, first_found, first_missing}
-use Rattle.demand.specs.Priority.{deadline_of}
+use Rattle.search.proofs.First.{first_found, first_missing}
 use Rattle.demand.proofs.Largest.{at_one}
 use Rattle.asked.specs.Rows.{word_at}
 use Rattle.roster.specs.Keys.{key_of}
-use Rattle.roster.specs.Lined.{PartFrom, part_size}
-use Rattle.roster.proofs.Lining.{part_first, part_next}
-use Rattle.turns.specs.Turns.{home_at, is_unplaced}
+use Rattle.roster.specs.Lined.{PartFrom}
+use Rattle.roster.proofs.Lining.{part_next}
+use Rattle.turns.specs.Turns.{home_at}
 use Rattle.fitting.specs.Steps.{accepts}
 use Rattle.placing.specs.declared.Tried.{Tried}
 use Rattle.placing.specs.Known.{Known, Trying, TryingIn, TriedIn, Lowest}

@@ -1,15 +1,13 @@
 -- The line and the rows that a trial makes, and what its answer says.
-use mathlib.Core.Path.{◌≡◌, refl, sym, ap, ◌∙◌, subst}
-use mathlib.Core.Bool.{Bool, true, false}
+use mathlib.Core.Path.{◌≡◌, ap, ◌∙◌, subst}
+use mathlib.Core.Bool.{Bool}
 use mathlib.Core.List.{List}
-use Prim.Native.Nat.{ℕ, ◌+◌, ◌-◌, ◌*◌, ◌/◌, ◌≤◌, ◌<◌}
+use Prim.Native.Nat.{ℕ, ◌+◌, ◌-◌, ◌<◌}
 use native.Mathlib.Omega.{arith}
-use lib.ListN.{length, get_or, set}
+use lib.ListN.{get_or}
 use Rattle.laws.specs.Joined.{overlaid}
 use Rattle.laws.proofs.Overlaid.{overlaid_in}
 use Rattle.model.specs.declared.order.Order.{Order}
-use Rattle.model.specs.Limits.{most_tasks}
-use Rattle.model.specs.Rules.{WithinLimits}
 use Rattle.demand.specs.Priority.{deadline_of}
 use Rattle.asked.specs.Rows.{RowsFit}
 use Rattle.trial.specs.Known.{KnownBefore, TriedAs}
@@ -18,9 +16,7 @@ use Rattle.roster.specs.Rows.{RowsInLine}
 use Rattle.roster.specs.Lined.{part_size}
 use Rattle.roster.proofs.Lining.{home_of_key}
 use Rattle.roster.proofs.Runs.{run_most}
-use Rattle.fitting.specs.Steps.{accepts}
-use Rattle.placing.specs.declared.Tried.{Tried}
-use Rattle.placing.specs.Known.{Known, Trying, TryingIn, TriedIn}
+use Rattle.placing.specs.Known.{TryingIn, TriedIn}
 use Rattle.placing.proofs.Beside.{newcomer_in, fit, before, answer_is, known_now}
 
 module _ (table keys lasts worsts : List ℕ) (placed first key : ℕ) (so : TryingIn table keys placed first key lasts worsts) where

@@ -1,5 +1,5 @@
 -- What is known of the placed tasks while first fit goes on. Inner definitions; those of the document stand in fitting.
-use Rattle.std.specs.Prelude.{ℕ, ◌+◌, ◌≤◌, ◌<◌, ◌≡◌, Bool, true, false, not, List, length, get_or, set}
+use Rattle.std.specs.Prelude.{ℕ, ◌+◌, ◌≤◌, ◌<◌, ◌≡◌, true, false, not, List, length, get_or, set}
 use Rattle.model.specs.declared.order.Order.{Order}
 use Rattle.model.specs.Limits.{most_tasks, task_of}
 use Rattle.model.specs.Rules.{WithinLimits}

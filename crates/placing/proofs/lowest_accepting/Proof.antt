@@ -1,99 +1,64 @@
 use borrow.Author.Rules.{rules}
-use mathlib.Core.Path.{◌≡◌, refl}
-use Prim.Native.Nat.{ℕ, ◌+◌, ◌-◌, ◌≤◌, ◌<◌}
+use Prim.Native.Nat.{◌+◌, ◌-◌, ◌≤◌}
 use native.Mathlib.Omega.{arith}
 use Rattle.placing.proofs.Seeking.{Sought, sought_none, next_trying, found_here, not_here, found_nowhere}
 use Rattle.placing.proofs.lowest_accepting.Statement.{statement}
 use Rattle.placing.proofs.lowest_accepting.Tie as tie
-use Rattle.placing.proofs.lowest_accepting.Reads as reads
-use Rattle.placing.proofs.lowest_accepting.Lts as lts
-use Rattle.placing.proofs.try_partition.Reads as try-partition-reads
-use Rattle.roster.proofs.key_of.Reads as key-of-reads
 
-abbrev invariant-loop : tie.invariant-loop
-invariant-loop table keys placed task opened lasts₀ worsts₀ first₀ partition₀ lasts worsts first partition =
+abbrev invariant-loop-partition : tie.invariant-loop-partition
+invariant-loop-partition table keys placed task opened lasts₀ worsts₀ first₀ partition₀ lasts worsts first partition =
     (partition ≤ opened) × Sought table keys placed lasts₀ worsts₀ task lasts worsts first partition
 
-abbrev decreases-loop : tie.decreases-loop
-decreases-loop table keys placed task opened lasts₀ worsts₀ first₀ partition₀ lasts worsts first partition =
+abbrev decreases-loop-partition : tie.decreases-loop-partition
+decreases-loop-partition table keys placed task opened lasts₀ worsts₀ first₀ partition₀ lasts worsts first partition =
     opened - partition
 
--- src/lib.rt:62:5
-loop-holds : tie.Need-loop-init invariant-loop decreases-loop
-loop-holds c = (omega arith, sought_none _ _ _ _ _ _)
+loop-partition-init : tie.Need-loop-partition-init invariant-loop-partition decreases-loop-partition
+loop-partition-init c = (omega arith, sought_none _ _ _ _ _ _)
 
--- src/lib.rt:63:51
-add-key-of : tie.Need-overflow-add-key-of invariant-loop decreases-loop
-add-key-of c = omega (arith, c.before.before.requires.0.known_task, c.before.before.requires.0.limits.tasks.1)
+overflow_add-task : tie.Need-overflow_add-task invariant-loop-partition decreases-loop-partition
+overflow_add-task c = omega (arith, c.requires.0.known_task, c.requires.0.limits.tasks.1)
 
--- src/lib.rt:63:45
-mul-key-of : tie.Need-overflow-mul-key-of invariant-loop decreases-loop
-mul-key-of c = omega (arith, c.before.before.requires.0.known_task, c.before.before.requires.0.limits.tasks.1)
+offset_bounds-table-task : tie.Need-offset_bounds-table-task invariant-loop-partition decreases-loop-partition
+offset_bounds-table-task c = omega (arith, c.requires.0.known_task, c.requires.0.limits.tasks.1)
 
--- src/lib.rt:63:45
-element-copy-out-key-of : tie.Need-element-copy-out-key-of invariant-loop decreases-loop
-element-copy-out-key-of c = omega (arith, c.before.before.requires.0.known_task, c.before.before.requires.0.limits.tasks.1)
+bounds-table-task : tie.Need-bounds-table-task invariant-loop-partition decreases-loop-partition
+bounds-table-task c = omega (arith, c.requires.0.known_task, c.requires.0.limits.tasks.1)
 
--- src/lib.rt:63:13
-key-of-requires : tie.Need-key-of-requires invariant-loop decreases-loop
-key-of-requires c κs =
-    let so = c.before.before.before.requires.0 in
-    let task = so.limits.each c.before.before.before.args.task so.known_task in
-    (omega (arith, c.before.loop-test.true, c.before.before.before.requires.1), omega (arith, (so.rows.each c.before.before.before.args.task so.known_task).deadline, task.deadline_in.1, task.period_in.1), omega (arith, c.before.before.before.requires.0.known_task, c.before.before.before.requires.0.limits.tasks.1))
+key_of-key-requires : tie.Need-key_of-key-requires invariant-loop-partition decreases-loop-partition
+key_of-key-requires c κs =
+    let so = c.requires.0 in
+    let task = so.limits.each c.args.task so.known_task in
+    (omega (arith, c.loop-partition-test.true, c.requires.1), omega (arith, (so.rows.each c.args.task so.known_task).deadline, task.deadline_in.1, task.period_in.1), omega (arith, c.requires.0.known_task, c.requires.0.limits.tasks.1))
 
--- src/lib.rt:64:13
-try-partition-requires : tie.Need-try-partition-requires invariant-loop decreases-loop
-try-partition-requires c κs = next_trying c.before.before.before.before.before.before.args.table.now c.before.before.before.before.before.before.args.keys.now c.before.before.before.before.before.before.args.placed c.before.before.before.before.before.before.args.lasts.now c.before.before.before.before.before.before.args.worsts.now c.before.before.before.before.before.before.args.task c.before.before.before.before.before.loop.lasts c.before.before.before.before.before.loop.worsts c.before.before.before.before.before.loop.first c.before.before.before.before.before.loop.partition c.before.before.key_of.result c.before.before.before.before.before.loop.invariant.1 (omega (arith, c.before.before.before.before.loop-test.true, c.before.before.before.before.before.before.requires.1)) c.before.before.key_of.ensures c.before.before.before.before.before.before.requires.0
+try_partition-tried-requires : tie.Need-try_partition-tried-requires invariant-loop-partition decreases-loop-partition
+try_partition-tried-requires c κs = next_trying c.args.table.now c.args.keys.now c.args.placed c.args.lasts.now c.args.worsts.now c.args.task c.loop-partition.lasts c.loop-partition.worsts c.loop-partition.first c.loop-partition.partition c.key_of-key.result c.loop-partition.invariant.1 (omega (arith, c.loop-partition-test.true, c.requires.1)) c.key_of-key.ensures c.requires.0
 
--- src/lib.rt:66:30
-cast-t20 : tie.Need-overflow-cast-t20 invariant-loop decreases-loop
-cast-t20 c = search rules
+overflow_cast-result : tie.Need-overflow_cast-result invariant-loop-partition decreases-loop-partition
+overflow_cast-result c = search rules
 
--- src/lib.rt:66:13
-returns : tie.Need-returns invariant-loop decreases-loop
-returns c = λ so. found_here c.before.before.before.before.before.before.before.before.args.table.now c.before.before.before.before.before.before.before.before.args.keys.now c.before.before.before.before.before.before.before.before.args.placed c.before.before.before.before.before.before.before.before.args.lasts.now c.before.before.before.before.before.before.before.before.args.worsts.now c.before.before.before.before.before.before.before.before.args.task c.before.before.before.before.before.before.before.loop.lasts c.before.before.before.before.before.before.before.loop.worsts c.before.before.before.before.before.before.before.loop.first c.before.before.before.before.before.before.before.loop.partition c.before.before.before.before.key_of.result c.before.before.before.before.before.before.before.loop.invariant.1 (omega (arith, c.before.before.before.before.before.before.loop-test.true, c.before.before.before.before.before.before.before.before.requires.1)) c.before.before.before.before.key_of.ensures c.before.try-partition.result _ _ c.before.try-partition.ensures c.before.before.before.before.before.before.before.before.args.opened c.before.before.before.before.before.before.loop-test.true c.if1.true so
+returns-then-tried : tie.Need-returns-then-tried invariant-loop-partition decreases-loop-partition
+returns-then-tried c = λ so. found_here c.args.table.now c.args.keys.now c.args.placed c.args.lasts.now c.args.worsts.now c.args.task c.loop-partition.lasts c.loop-partition.worsts c.loop-partition.first c.loop-partition.partition c.key_of-key.result c.loop-partition.invariant.1 (omega (arith, c.loop-partition-test.true, c.requires.1)) c.key_of-key.ensures c.try_partition-tried.result _ _ c.try_partition-tried.ensures c.args.opened c.loop-partition-test.true c.if-tried.true so
 
 -- this partition does not take it
-further : (c : tie.After-struct-known invariant-loop decreases-loop)
-    → Sought c.before.before.before.before.before.before.before.before.before.args.table.now c.before.before.before.before.before.before.before.before.before.args.keys.now c.before.before.before.before.before.before.before.before.before.args.placed c.before.before.before.before.before.before.before.before.before.args.lasts.now c.before.before.before.before.before.before.before.before.before.args.worsts.now c.before.before.before.before.before.before.before.before.before.args.task c.before.before.try-partition.new.1.1.1.1.1.0 c.before.before.try-partition.new.1.1.1.1.1.1.0 (c.before.before.before.before.before.before.before.before.loop.first + c.before.before.try-partition.result.size) (c.before.before.before.before.before.before.before.before.loop.partition + 1)
-further c = not_here c.before.before.before.before.before.before.before.before.before.args.table.now c.before.before.before.before.before.before.before.before.before.args.keys.now c.before.before.before.before.before.before.before.before.before.args.placed c.before.before.before.before.before.before.before.before.before.args.lasts.now c.before.before.before.before.before.before.before.before.before.args.worsts.now c.before.before.before.before.before.before.before.before.before.args.task c.before.before.before.before.before.before.before.before.loop.lasts c.before.before.before.before.before.before.before.before.loop.worsts c.before.before.before.before.before.before.before.before.loop.first c.before.before.before.before.before.before.before.before.loop.partition c.before.before.before.before.before.key_of.result c.before.before.before.before.before.before.before.before.loop.invariant.1 (omega (arith, c.before.before.before.before.before.before.before.loop-test.true, c.before.before.before.before.before.before.before.before.before.requires.1)) c.before.before.before.before.before.key_of.ensures c.before.before.try-partition.result _ _ c.before.before.try-partition.ensures c.before.before.before.before.before.before.before.before.before.requires.0 c.before.if1.false
+further : (c : tie.After-struct_known-1 invariant-loop-partition decreases-loop-partition)
+    → Sought c.args.table.now c.args.keys.now c.args.placed c.args.lasts.now c.args.worsts.now c.args.task c.try_partition-tried.new.lasts c.try_partition-tried.new.worsts (c.loop-partition.first + c.try_partition-tried.result.size) (c.loop-partition.partition + 1)
+further c = not_here c.args.table.now c.args.keys.now c.args.placed c.args.lasts.now c.args.worsts.now c.args.task c.loop-partition.lasts c.loop-partition.worsts c.loop-partition.first c.loop-partition.partition c.key_of-key.result c.loop-partition.invariant.1 (omega (arith, c.loop-partition-test.true, c.requires.1)) c.key_of-key.ensures c.try_partition-tried.result _ _ c.try_partition-tried.ensures c.requires.0 c.if-tried.false
 
--- src/lib.rt:68:9
-add-first : tie.Need-overflow-add-first invariant-loop decreases-loop
-add-first c = omega (arith, (further c).members.upto, c.before.before.before.before.before.before.before.before.before.requires.0.room)
+overflow_add-first : tie.Need-overflow_add-first invariant-loop-partition decreases-loop-partition
+overflow_add-first c = omega (arith, (further c).members.upto, c.requires.0.room)
 
--- src/lib.rt:69:9
-add-partition : tie.Need-overflow-add-partition invariant-loop decreases-loop
-add-partition c = search rules
+overflow_add-partition : tie.Need-overflow_add-partition invariant-loop-partition decreases-loop-partition
+overflow_add-partition c = search rules
 
--- src/lib.rt:62:5
-loop-less : tie.Need-loop-smaller invariant-loop decreases-loop
-loop-less c = search rules
+loop-partition-smaller : tie.Need-loop-partition-smaller invariant-loop-partition decreases-loop-partition
+loop-partition-smaller c = search rules
 
--- src/lib.rt:62:5
-loop-again : tie.Need-loop-preserved invariant-loop decreases-loop
-loop-again c = (omega (arith, c.before.before.before.before.before.before.before.loop-test.true), further c)
+loop-partition-preserved : tie.Need-loop-partition-preserved invariant-loop-partition decreases-loop-partition
+loop-partition-preserved c = (omega (arith, c.loop-partition-test.true), further c)
 
--- src/lib.rt:48:1
-returns-2 : tie.Need-returns-2 invariant-loop decreases-loop
-returns-2 c = λ so. found_nowhere c.before.before.args.table.now c.before.before.args.keys.now c.before.before.args.placed c.before.before.args.lasts.now c.before.before.args.worsts.now c.before.before.args.task c.before.loop.lasts c.before.loop.worsts c.before.loop.first c.before.loop.partition c.before.before.args.opened c.before.loop.invariant.1 c.loop-test.false so
+returns : tie.Need-returns invariant-loop-partition decreases-loop-partition
+returns c = λ so. found_nowhere c.args.table.now c.args.keys.now c.args.placed c.args.lasts.now c.args.worsts.now c.args.task c.loop-partition.lasts c.loop-partition.worsts c.loop-partition.first c.loop-partition.partition c.args.opened c.loop-partition.invariant.1 c.loop-partition-test.false so
 
-pub lowest-accepting-spec : {M : Type 1} → statement M
-lowest-accepting-spec =
-    tie.close
-    (tie.spec
-    invariant-loop
-    decreases-loop
-    loop-holds
-    add-key-of
-    mul-key-of
-    element-copy-out-key-of
-    key-of-requires
-    try-partition-requires
-    cast-t20
-    returns
-    add-first
-    add-partition
-    loop-less
-    loop-again
-    returns-2)
+pub lowest_accepting_spec : {M : Type 1} → statement M
+lowest_accepting_spec = tie.close (tie.spec invariant-loop-partition decreases-loop-partition loop-partition-init overflow_add-task offset_bounds-table-task bounds-table-task key_of-key-requires try_partition-tried-requires overflow_cast-result returns-then-tried overflow_add-first overflow_add-partition loop-partition-smaller loop-partition-preserved returns)
