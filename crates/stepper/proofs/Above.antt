@@ -1,15 +1,14 @@
 -- Ranks of a partition's members: those that outrank have lower ones, and no two are equal.
-use Prim.Native.Nat.{ℕ, ◌+◌, ◌≤◌, ◌<◌}
-use mathlib.Core.Path.{◌≡◌, refl, sym, ap, ◌∙◌}
+use Prim.Native.Nat.{ℕ, ◌≤◌, ◌<◌}
+use mathlib.Core.Path.{◌≡◌, refl, ap}
 use mathlib.Core.Bool.{Bool, true, false, ◌&&◌, ◌||◌}
 use mathlib.Core.List.{List}
 use mathlib.Core.Logic.{⊎_elim}
 use native.Mathlib.Omega.{arith}
 use lib.Dec.{eqb}
 use borrow.Author.Tests.{eqb-true}
-use Rattle.laws.specs.Sums.{only, sum}
-use Rattle.laws.proofs.Every.{clash, and_both, both_and}
-use Rattle.laws.proofs.Only.{only_true}
+use Rattle.laws.specs.Sums.{only}
+use Rattle.laws.proofs.Every.{and_both, both_and}
 use Rattle.laws.proofs.Sums.{sum_le}
 use Rattle.laws.proofs.Picked.{sum_with}
 use Rattle.model.specs.declared.order.Order.{Order}

@@ -1,5 +1,5 @@
 -- Laws of the ranks that wait, and of a task's oldest record.
-use Prim.Native.Nat.{ℕ, suc, ◌≤◌, ◌<◌, max}
+use Prim.Native.Nat.{ℕ, suc, ◌≤◌, ◌<◌}
 use mathlib.Core.Path.{◌≡◌, refl, sym, ap, ◌∙◌, subst}
 use mathlib.Core.List.{List}
 use mathlib.Core.Logic.{◌⊎◌, inl, inr, ⊎_elim}
@@ -14,7 +14,7 @@ use Rattle.model.specs.Limits.{most_records, home_of}
 use Rattle.stepper.specs.Ranks.{rank_bit}
 use Rattle.stepper.specs.Lines.{record_task, record_joins, NextOf}
 use Rattle.stepper.specs.Follow.{rank_of, Heads, Marks, ReleasedIn, LegalRun}
-use Rattle.stepper.proofs.Ranks.{bit_most, bit_or}
+use Rattle.stepper.proofs.Ranks.{bit_most, bit_or_lem}
 use Rattle.stepper.proofs.Lines.{joins_later}
 
 -- in one of two sets
@@ -23,13 +23,13 @@ bit_either v w r e = go (dec_lt 0 (rank_bit v r))
   where
     go : Dec (0 < rank_bit v r) → (rank_bit v r ≡ 1) ⊎ (rank_bit w r ≡ 1)
     go (yes p) = inl (omega (arith, bit_most v r))
-    go (no p) = inr (omega (arith, bit_or v w r, bit_most w r))
+    go (no p) = inr (omega (arith, bit_or_lem v w r, bit_most w r))
 
 pub bit_one : (v w r : ℕ) → rank_bit v r ≡ 1 → rank_bit (bit_or v w) r ≡ 1
-bit_one v w r e = omega (arith, bit_or v w r, bit_most w r)
+bit_one v w r e = omega (arith, bit_or_lem v w r, bit_most w r)
 
 pub bit_two : (v w r : ℕ) → rank_bit w r ≡ 1 → rank_bit (bit_or v w) r ≡ 1
-bit_two v w r e = omega (arith, bit_or v w r, bit_most v r)
+bit_two v w r e = omega (arith, bit_or_lem v w r, bit_most v r)
 
 -- a later tick
 pub heads_later : {script : List Release} {t u k h : ℕ} → t ≤ u → Heads script t k h → Heads script u k h

@@ -1,7 +1,7 @@
 -- Laws of a set of ranks: a rank joins, a rank leaves, the lowest.
-use Prim.Native.Nat.{ℕ, zero, suc, ◌+◌, ◌-◌, ◌*◌, ◌/◌, ◌%◌, ◌^◌, ◌≤◌, ◌<◌, max}
-use mathlib.Core.Path.{◌≡◌, refl, sym, ap, ◌∙◌, subst}
-use mathlib.Core.Logic.{◌⊎◌, inl, inr, ◌≢◌}
+use Prim.Native.Nat.{ℕ, zero, suc, ◌-◌, ◌*◌, ◌/◌, ◌%◌, ◌^◌, ◌≤◌, ◌<◌, max}
+use mathlib.Core.Path.{◌≡◌, refl, sym, ap, ◌∙◌}
+use mathlib.Core.Logic.{◌≢◌}
 use native.Mathlib.Nat.{pow-suc, one-mul, mod-eq_of_lt}
 use native.Mathlib.Omega.{arith}
 use lib.Bits.{bit_or, or_step}
@@ -21,12 +21,12 @@ bit_none zero = refl
 bit_none (suc r) = bit_none r
 
 -- of two sets together
-pub bit_or : (a b r : ℕ) → rank_bit (bit_or a b) r ≡ max (rank_bit a r) (rank_bit b r)
+pub bit_or_lem : (a b r : ℕ) → rank_bit (bit_or a b) r ≡ max (rank_bit a r) (rank_bit b r)
 unfolding rank_bit
-bit_or a b zero = omega (arith, or_step a b)
-bit_or a b (suc r) =
+bit_or_lem a b zero = omega (arith, or_step a b)
+bit_or_lem a b (suc r) =
     let half : bit_or a b / 2 ≡ bit_or (a / 2) (b / 2) = omega (arith, or_step a b) in
-    ap (λ (x : ℕ). rank_bit x r) half ∙ bit_or (a / 2) (b / 2) r
+    ap (λ (x : ℕ). rank_bit x r) half ∙ bit_or_lem (a / 2) (b / 2) r
 
 pub bit_own : (r : ℕ) → rank_bit (2 ^ r) r ≡ 1
 unfolding rank_bit

@@ -1,5 +1,5 @@
 -- The machine's tick is the definition's: what runs goes on, a free partition rests, or the oldest job of the highest-priority waiting member starts.
-use Prim.Native.Nat.{ℕ, zero, suc, ◌+◌, ◌-◌, ◌^◌, ◌≤◌, ◌<◌}
+use Prim.Native.Nat.{ℕ, zero, suc, ◌-◌, ◌^◌, ◌<◌}
 use mathlib.Core.Path.{◌≡◌, refl, sym, ap, ◌∙◌, subst, subst₂}
 use mathlib.Core.Bool.{Bool, true, false, ◌&&◌}
 use mathlib.Core.List.{List, [], ◌∷◌, ◌++◌}
@@ -10,7 +10,7 @@ use lib.Bits.{bit_or}
 use lib.Dec.{ltb}
 use lib.ListN.{length, get_or, set, length-set}
 use lib.Seq.{get_or-set_same, get_or-set_other}
-use borrow.Author.Tests.{lt-ltb, le-ltb, ltb-true}
+use borrow.Author.Tests.{lt-ltb, ltb-true}
 use Rattle.laws.specs.Choice.{pick}
 use Rattle.laws.proofs.Every.{clash, and_both, both_and}
 use Rattle.model.specs.declared.order.Order.{Order}
@@ -19,7 +19,7 @@ use Rattle.model.specs.declared.build.Release.{Release}
 use Rattle.model.specs.Limits.{most_tasks, most_records, home_of}
 use Rattle.demand.specs.Priority.{members_of, outranks}
 use Rattle.demand.proofs.Priority.{outranks_one, rank_less}
-use Rattle.machine.specs.Step.{Job, job, Running, free, runs, ended, released, joining}
+use Rattle.machine.specs.Step.{Job, Running, free, runs, ended, released, joining}
 use Rattle.machine.specs.Pattern.{record_of, pattern_of}
 use Rattle.machine.proofs.View.{goes_on_lem, begins, rests, waiting_before, running_before, joined_by, ViewAt, view}
 use Rattle.machine.proofs.Work.{theirs_of}
@@ -29,7 +29,7 @@ use Rattle.stepper.specs.declared.Machine.{Machine}
 use Rattle.stepper.specs.Ranks.{rank_bit, LowestRank}
 use Rattle.stepper.specs.Lines.{record_task, record_joins, NextOf, JobsInLine}
 use Rattle.stepper.specs.Follow.{rank_of, oldest_of, Heads, ShowsRunning, Marks, Follows, StartsOne, ReleasedIn, LegalRun}
-use Rattle.stepper.proofs.Ranks.{bit_most, bit_none, bit_left, bit_stays}
+use Rattle.stepper.proofs.Ranks.{bit_none, bit_left, bit_stays}
 use Rattle.stepper.proofs.Lines.{line_joined, line_passed, line_first}
 use Rattle.stepper.proofs.Above.{outranks-lower, ranks_apart}
 use Rattle.stepper.proofs.Marks.{heads_later, heads_next, marks_on}

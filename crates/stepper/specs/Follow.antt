@@ -6,7 +6,7 @@ use Rattle.model.specs.declared.build.Release.{Release}
 use Rattle.model.specs.Limits.{most_tasks, most_records, member_of, home_of}
 use Rattle.demand.specs.Priority.{members_of, rank}
 use Rattle.machine.specs.Step.{Running, free, runs}
-use Rattle.machine.specs.Pattern.{record_of, pattern_of, LegalScript}
+use Rattle.machine.specs.Pattern.{pattern_of, LegalScript}
 use Rattle.machine.specs.Box.{box_before}
 use Rattle.script.specs.Held.{Held}
 use Rattle.stepper.specs.declared.Machine.{Machine}
