@@ -6,7 +6,7 @@ use lib.Dec.{leb}
 use lib.ListN.{length}
 use native.Mathlib.Nat.{le_antisymm}
 use native.Mathlib.Omega.{arith}
-use borrow.Author.Tests.{leb-true, not-true, not-false}
+use borrow.Author.Tests.{leb-true}
 use Rattle.laws.specs.Joined.{joined}
 use Rattle.laws.proofs.Every.{and_both}
 use Rattle.laws.proofs.Joined.{length-listed}
@@ -22,97 +22,73 @@ use Rattle.inspect_places.proofs.Flags.{flags_of, flags_none, flags_more, right_
 use Rattle.inspect_places.proofs.judge_places.Statement.{statement}
 use Rattle.inspect_places.proofs.judge_places.Tie as tie
 
-abbrev rules : Order → Build → ℕ → List Rule
-rules o b = each_rule (λ p. well_placed o.processors b p) (λ p. OfBuild (PartitionPlace p))
+abbrev the_rules : Order → Build → ℕ → List Rule
+the_rules o b = each_rule (λ p. well_placed o.processors b p) (λ p. OfBuild (PartitionPlace p))
 
-abbrev invariant-loop : tie.invariant-loop
-invariant-loop order build places taken₀ i₀ taken i = (i ≤ build.partitions) × AllPass (joined (rules order build) i) × (taken ≡ flags_of build i)
+abbrev invariant-loop-i : tie.invariant-loop-i
+invariant-loop-i order build places taken₀ i₀ taken i = (i ≤ build.partitions) × AllPass (joined (the_rules order build) i) × (taken ≡ flags_of build i)
 
-abbrev decreases-loop : tie.decreases-loop
-decreases-loop order build places taken₀ i₀ taken i = build.partitions - i
+abbrev decreases-loop-i : tie.decreases-loop-i
+decreases-loop-i order build places taken₀ i₀ taken i = build.partitions - i
 
 -- what the test of a partition says in the definition's words
-judged : (c : tie.After-partition-right invariant-loop decreases-loop) → let w = c.before.before.before.before in let a = w.before.before.args in
-    c.partition_right_lem.result ≡ partition_right a.order.processors a.build w.loop.i
+
+judged : (c : tie.After-partition_right invariant-loop-i decreases-loop-i) → let a = c.args in
+    c.partition_right.result ≡ partition_right a.order.processors a.build c.loop-i.i
 judged c =
-    let w = c.before.before.before.before in
-    let s = w.before.before in
-    c.partition_right_lem.ensures ∙ right_same s.args.build w.loop.i _ w.loop.invariant.2 s.args.order.processors s.requires.0
+    c.partition_right.ensures ∙ right_same c.args.build c.loop-i.i _ c.loop-i.invariant.2 c.args.order.processors c.requires.0
 
-loop-holds : tie.Need-loop-init invariant-loop decreases-loop
-loop-holds c = (search rules, each_none _ _, flags_none c.before.args.build)
+loop-i-init : tie.Need-loop-i-init invariant-loop-i decreases-loop-i
+loop-i-init c = (search rules, each_none _ _, flags_none c.args.build)
 
-cast-if1 : tie.Need-overflow-cast-if1 invariant-loop decreases-loop
-cast-if1 c = search rules
+overflow_cast-build : tie.Need-overflow_cast-build invariant-loop-i decreases-loop-i
+overflow_cast-build c = search rules
 
-mul-place : tie.Need-overflow-mul-place invariant-loop decreases-loop
-mul-place c = search rules
+offset_bounds-places-i : tie.Need-offset_bounds-places-i invariant-loop-i decreases-loop-i
+offset_bounds-places-i c = search rules
 
-array-copy-out-place : tie.Need-array-copy-out-place invariant-loop decreases-loop
-array-copy-out-place c = search rules
+bounds-places-i : tie.Need-bounds-places-i invariant-loop-i decreases-loop-i
+bounds-places-i c = search rules
 
-partition-right-requires : tie.Need-partition-right-requires invariant-loop decreases-loop
-partition-right-requires c κs =
-    let s = c.before.before.before.before.before in
-    let fit = s.requires.2 c.before.before.before.loop.i c.before.if1.true in
-    (s.requires.0, fit.0, fit.1)
+partition_right-requires : tie.Need-partition_right-requires invariant-loop-i decreases-loop-i
+partition_right-requires c κs =
+    let fit = c.requires.2 c.loop-i.i c.loop-i-test.true in
+    (c.requires.0, fit.0, fit.1)
 
-cast-t14 : tie.Need-overflow-cast-t14 invariant-loop decreases-loop
-cast-t14 c = search rules
+overflow_cast-result : tie.Need-overflow_cast-result invariant-loop-i decreases-loop-i
+overflow_cast-result c = search rules
 
-returns : tie.Need-returns invariant-loop decreases-loop
+returns-then-not-partition_right : tie.Need-returns-then-not-partition_right invariant-loop-i decreases-loop-i
+unfolding place_rules
+returns-then-not-partition_right c =
+    let a = c.args in
+    sym (each_stop _ _ 0 a.build.partitions c.loop-i.i c.loop-i-test.true c.loop-i.invariant.1 (sym (judged c.before) ∙ c.if-not-partition_right.true))
+
+take_all-more-requires : tie.Need-take_all-more-requires invariant-loop-i decreases-loop-i
+take_all-more-requires c κs =
+    let a = c.args in
+    let place = place_of a.build c.loop-i.i in
+    let right = and_both (leb 1 place.volume) _ (sym c.partition_right.ensures ∙ c.if-not-partition_right.false) in
+    let inside : place.first + place.volume ≤ a.order.processors = leb-true _ _ (and_both (leb (place.first + place.volume) _) _ right.1).0 in
+    (omega (arith, c.requires.0), ap length c.loop-i.invariant.2 ∙ length-listed _ most_processors)
+
+overflow_add-i : tie.Need-overflow_add-i invariant-loop-i decreases-loop-i
+overflow_add-i c = search rules
+
+loop-i-smaller : tie.Need-loop-i-smaller invariant-loop-i decreases-loop-i
+loop-i-smaller c = search rules
+
+loop-i-preserved : tie.Need-loop-i-preserved invariant-loop-i decreases-loop-i
+loop-i-preserved c =
+    let b = c.args.build in
+    (search rules, each_more _ _ c.loop-i.i c.loop-i.invariant.1 (sym (judged c.before.before) ∙ c.if-not-partition_right.false), c.take_all-more.ensures ∙ flags_more b c.loop-i.i _ c.loop-i.invariant.2)
+
+returns : tie.Need-returns invariant-loop-i decreases-loop-i
 unfolding place_rules
 returns c =
-    let t = c.before.before.before in
-    let w = t.before.before in
-    let a = w.before.before.args in
-    sym (each_stop _ _ 0 a.build.partitions w.loop.i t.if1.true w.loop.invariant.1 (sym (judged c.before) ∙ not-true _ c.if2.true))
+    let a = c.args in
+    let all : c.loop-i.i ≡ a.build.partitions = le_antisymm c.loop-i.invariant.0 c.loop-i-test.false in
+    sym (pass_done 0 _ (subst (λ (n : ℕ). AllPass (joined (the_rules a.order a.build) n)) all c.loop-i.invariant.1))
 
-take-all-requires : tie.Need-take-all-requires invariant-loop decreases-loop
-take-all-requires c κs =
-    let w = c.before.before.before.before.before in
-    let a = w.before.before.args in
-    let place = place_of a.build w.loop.i in
-    let right = and_both (leb 1 place.volume) _ (sym c.before.partition_right_lem.ensures ∙ not-false _ c.if2.false) in
-    let inside : place.first + place.volume ≤ a.order.processors = leb-true _ _ (and_both (leb (place.first + place.volume) _) _ right.1).0 in
-    (omega (arith, w.before.before.requires.0), ap length w.loop.invariant.2 ∙ length-listed _ most_processors)
-
-add-i : tie.Need-overflow-add-i invariant-loop decreases-loop
-add-i c = search rules
-
-loop-less : tie.Need-loop-smaller invariant-loop decreases-loop
-loop-less c = search rules
-
-loop-again : tie.Need-loop-preserved invariant-loop decreases-loop
-loop-again c =
-    let e = c.before in
-    let w = e.before.before.before.before.before in
-    let b = w.before.before.args.build in
-    (search rules, each_more _ _ w.loop.i w.loop.invariant.1 (sym (judged e.before) ∙ not-false _ e.if2.false), c.take_all.ensures ∙ flags_more b w.loop.i _ w.loop.invariant.2)
-
-returns-2 : tie.Need-returns-2 invariant-loop decreases-loop
-unfolding place_rules
-returns-2 c =
-    let w = c.before.before in
-    let a = w.before.before.args in
-    let all : w.loop.i ≡ a.build.partitions = le_antisymm w.loop.invariant.0 c.if1.false in
-    sym (pass_done 0 _ (subst (λ (n : ℕ). AllPass (joined (rules a.order a.build) n)) all w.loop.invariant.1))
-
-pub judge-places-spec : {M : Type 1} → statement M
-judge-places-spec =
-    tie.close
-    (tie.spec
-    invariant-loop
-    decreases-loop
-    loop-holds
-    cast-if1
-    mul-place
-    array-copy-out-place
-    partition-right-requires
-    cast-t14
-    returns
-    take-all-requires
-    add-i
-    loop-less
-    loop-again
-    returns-2)
+pub judge_places_spec : {M : Type 1} → statement M
+judge_places_spec = tie.close (tie.spec invariant-loop-i decreases-loop-i loop-i-init overflow_cast-build offset_bounds-places-i bounds-places-i partition_right-requires overflow_cast-result returns-then-not-partition_right take_all-more-requires overflow_add-i loop-i-smaller loop-i-preserved returns)
