@@ -1,0 +1,15 @@
+use borrow.Author.Rules.{rules}
+use borrow.Author.Tests.{eq-eqb, ne_eqb}
+use native.Mathlib.Omega.{arith}
+use Rattle.list_out.proofs.Parts.{length-single, length_range}
+use Rattle.list_out.proofs.item_bytes.Goals as goal
+
+pub returns-then-first-last : goal.returns-then-first-last
+returns-then-first-last c =
+    let a = c.args in
+    (omega (arith, c.digits_in-size.ensures.0, c.digits_in.ensures.0, length_range a.first a.last (ne_eqb a.first a.last c.if-first-last.true)), search rules)
+
+pub returns : goal.returns
+returns c =
+    let a = c.args in
+    (omega (arith, c.digits_in-size.ensures.0, length-single a.first a.last (eq-eqb a.first a.last c.if-first-last.false)), search rules)
