@@ -17,125 +17,105 @@ use Rattle.inspect_layout.proofs.Rules.{matching_tells}
 use Rattle.inspect_layout.proofs.judge_layout.Statement.{statement}
 use Rattle.inspect_layout.proofs.judge_layout.Tie as tie
 
-abbrev bytes : tie.Else1 → List ℕ
-bytes c = c.before.before.args.build.now
+abbrev bytes : tie.Else-build-lt-HEADER_BYTES → List ℕ
+bytes c = c.args.build.now
 
-abbrev order : tie.Else1 → Order
-order c = c.before.before.args.order
+abbrev order : tie.Else-build-lt-HEADER_BYTES → Order
+order c = c.args.order
 
-abbrev read : tie.After-header-matches → tie.Else1
+abbrev read : tie.After-header_matches → tie.Else-build-lt-HEADER_BYTES
 read c = c.before.before
 
-header_same : (c : tie.After-header-matches) → c.before.read-build-header.result ≡ build_header_of (bytes (read c))
-header_same c = c.before.read-build-header.ensures
+header_same : (c : tie.After-header_matches) → c.read_build_header-header.result ≡ build_header_of (bytes (read c))
+header_same c = c.read_build_header-header.ensures
 
 -- the rules passed at each place
-long : (c : tie.Else1) → leb 3 (length (bytes c)) ≡ true
-long c = le-leb _ _ c.if1.false
 
-tested : (c : tie.After-header-matches) → header_matches (order (read c)) (build_header_of (bytes (read c))) ≡ c.header-matches.result
-tested c = ap (header_matches (order (read c))) (sym (header_same c)) ∙ sym c.header-matches.ensures
+long : (c : tie.Else-build-lt-HEADER_BYTES) → leb 3 (length (bytes c)) ≡ true
+long c = le-leb _ _ c.if-build-lt-HEADER_BYTES.false
 
-matches : (c : tie.Else2) → header_matches (order (read c.before)) (build_header_of (bytes (read c.before))) ≡ true
-matches c = tested c.before ∙ not-false _ c.if2.false
+tested : (c : tie.After-header_matches) → header_matches (order (read c)) (build_header_of (bytes (read c))) ≡ c.header_matches.result
+tested c = ap (header_matches (order (read c))) (sym (header_same c)) ∙ sym c.header_matches.ensures
 
-matched : (c : tie.Else2) → HeaderMatches (order (read c.before)) c.before.before.read-build-header.result
-matched c = (matching_tells _ _).0 (sym c.before.header-matches.ensures ∙ not-false _ c.if2.false)
+matches : (c : tie.Else-not-header_matches) → header_matches (order (read c.before)) (build_header_of (bytes (read c.before))) ≡ true
+matches c = tested c.before ∙ c.if-not-header_matches.false
 
-abbrev matching : tie.After-bytes → tie.Else2
+matched : (c : tie.Else-not-header_matches) → HeaderMatches (order (read c.before)) c.read_build_header-header.result
+matched c = (matching_tells _ _).0 (sym c.header_matches.ensures ∙ c.if-not-header_matches.false)
+
+abbrev matching : tie.After-bytes → tie.Else-not-header_matches
 matching c = c.before.before.before
 
 -- what the length is compared with
+
 size : (c : tie.After-bytes) → let h = build_header_of (bytes (read (matching c).before)) in c.bytes.result ≡ build_length 1 h.partitions h.tasks
 size c = c.bytes.ensures ∙ ap (λ (h : BuildHeader). build_length 1 h.partitions h.tasks) (header_same (matching c).before)
 
-size_right : (c : tie.Else3) → let s = bytes (read (matching c.before).before) in eqb (length s) (build_length 1 (build_header_of s).partitions (build_header_of s).tasks) ≡ true
-size_right c = eq-eqb _ _ (c.if3.false ∙ size c.before)
+size_right : (c : tie.Else-build-bytes) → let s = bytes (read (matching c.before).before) in eqb (length s) (build_length 1 (build_header_of s).partitions (build_header_of s).tasks) ≡ true
+size_right c = eq-eqb _ _ (c.if-build-bytes.false ∙ size c.before)
 
 refused-requires : tie.Need-refused-requires
 refused-requires c κs = search rules
 
-returns : tie.Need-returns
+returns-then-build-lt-HEADER_BYTES : tie.Need-returns-then-build-lt-HEADER_BYTES
 unfolding first_broken build_layout_rules
-returns c = c.refused.ensures ∙ rw (lt-leb _ _ c.before.if1.true)
+returns-then-build-lt-HEADER_BYTES c = c.refused.ensures ∙ rw (lt-leb _ _ c.if-build-lt-HEADER_BYTES.true)
 
-read-build-header-requires : tie.Need-read-build-header-requires
-read-build-header-requires c κs = search rules
+read_build_header-header-requires : tie.Need-read_build_header-header-requires
+read_build_header-header-requires c κs = search rules
 
-header-matches-requires : tie.Need-header-matches-requires
-header-matches-requires c κs = search rules
+header_matches-requires : tie.Need-header_matches-requires
+header_matches-requires c κs = search rules
 
-refused-requires-2 : tie.Need-refused-requires-2
-refused-requires-2 c κs = search rules
+refused-requires-then-not-header_matches : tie.Need-refused-requires-then-not-header_matches
+refused-requires-then-not-header_matches c κs = search rules
 
-returns-2 : tie.Need-returns-2
+returns-then-not-header_matches : tie.Need-returns-then-not-header_matches
 unfolding first_broken build_layout_rules
-returns-2 c =
-    let m = c.before.before in
-    c.refused2.ensures ∙ rw (long (read m), tested m ∙ not-true _ c.before.if2.true)
+returns-then-not-header_matches c =
+    c.refused-then-not-header_matches.ensures ∙ rw (long (read c.before.before), tested c.before.before ∙ c.if-not-header_matches.true)
 
-cast-bytes : tie.Need-overflow-cast-bytes
-cast-bytes c = search rules
+overflow_cast-header : tie.Need-overflow_cast-header
+overflow_cast-header c = search rules
 
-cast-bytes-2 : tie.Need-overflow-cast-bytes-2
-cast-bytes-2 c = search rules
+overflow_cast-header-2 : tie.Need-overflow_cast-header-2
+overflow_cast-header-2 c = search rules
 
 bytes-requires : tie.Need-bytes-requires
 bytes-requires c κs =
     let m = matched c.before.before in
-    let few = c.before.before.before.before.before.before.before.requires in
+    let few = c.requires in
     omega (arith, m.partitions, m.tasks)
 
-refused-requires-3 : tie.Need-refused-requires-3
-refused-requires-3 c κs = search rules
+refused-requires-then-build-bytes : tie.Need-refused-requires-then-build-bytes
+refused-requires-then-build-bytes c κs = search rules
 
-returns-3 : tie.Need-returns-3
+returns-then-build-bytes : tie.Need-returns-then-build-bytes
 unfolding first_broken build_layout_rules
-returns-3 c =
-    let b = c.before.before in
-    let m = matching b in
-    c.refused3.ensures ∙ rw (long (read m.before), matches m, ne_eqb _ _ (λ e. c.before.if3.true (e ∙ sym (size b))))
+returns-then-build-bytes c =
+    let m = matching c.before.before in
+    c.refused-then-build-bytes.ensures ∙ rw (long (read m.before), matches m, ne_eqb _ _ (λ e. c.if-build-bytes.true (e ∙ sym (size c.before.before))))
 
-take-build-requires : tie.Need-take-build-requires
-take-build-requires c κs =
+take_build-taken-requires : tie.Need-take_build-taken-requires
+take_build-taken-requires c κs =
     let m = matching c.before in
-    let few = (read m.before).before.before.requires in
+    let few = (read m.before).requires in
     (header_same m.before, (matched m).partitions.1, omega (arith, (matched m).tasks))
 
-refused-requires-4 : tie.Need-refused-requires-4
-refused-requires-4 c κs = search rules
+refused-requires-then-not-taken : tie.Need-refused-requires-then-not-taken
+refused-requires-then-not-taken c κs = search rules
 
-returns-4 : tie.Need-returns-4
+returns-then-not-taken : tie.Need-returns-then-not-taken
 unfolding first_broken build_layout_rules
-returns-4 c =
-    let z = c.before.before.before.before in
-    let m = matching z.before in
-    c.refused4.ensures ∙ rw (long (read m.before), matches m, size_right z, sym c.before.before.before.take-build.ensures.0 ∙ not-true _ c.before.if4.true)
+returns-then-not-taken c =
+    let m = matching c.before.before.before.before.before in
+    c.refused-then-not-taken.ensures ∙ rw (long (read m.before), matches m, size_right c.before.before.before.before, sym c.take_build-taken.ensures.0 ∙ not-true _ c.if-not-taken.true)
 
-returns-5 : tie.Need-returns-5
+returns : tie.Need-returns
 unfolding first_broken build_layout_rules
-returns-5 c =
-    let t = c.before.before.before in
-    let z = t.before in
-    let m = matching z.before in
-    rw (long (read m.before), matches m, size_right z, sym t.take-build.ensures.0 ∙ not-false _ c.before.if4.false, t.take-build.ensures.1)
+returns c =
+    let m = matching c.before.before.before.before.before in
+    rw (long (read m.before), matches m, size_right c.before.before.before.before, sym c.take_build-taken.ensures.0 ∙ not-false _ c.if-not-taken.false, c.take_build-taken.ensures.1)
 
-pub judge-layout-spec : {M : Type 1} → statement M
-judge-layout-spec =
-    tie.close
-    (tie.spec
-    refused-requires
-    returns
-    read-build-header-requires
-    header-matches-requires
-    refused-requires-2
-    returns-2
-    cast-bytes
-    cast-bytes-2
-    bytes-requires
-    refused-requires-3
-    returns-3
-    take-build-requires
-    refused-requires-4
-    returns-4
-    returns-5)
+pub judge_layout_spec : {M : Type 1} → statement M
+judge_layout_spec = tie.close (tie.spec refused-requires returns-then-build-lt-HEADER_BYTES read_build_header-header-requires header_matches-requires refused-requires-then-not-header_matches returns-then-not-header_matches overflow_cast-header overflow_cast-header-2 bytes-requires refused-requires-then-build-bytes returns-then-build-bytes take_build-taken-requires refused-requires-then-not-taken returns-then-not-taken returns)
