@@ -1,9 +1,9 @@
 -- The finish ticks of a partition's records, written as its jobs start.
-use Prim.Native.Nat.{ℕ, zero, suc, ◌+◌, ◌-◌, ◌≤◌, ◌<◌}
-use mathlib.Core.Path.{◌≡◌, refl, sym, ap, ◌∙◌, subst}
-use mathlib.Core.Bool.{Bool, true, false, ◌||◌}
-use mathlib.Core.List.{List, []}
-use mathlib.Core.Logic.{◌⊎◌, inl, inr, ⊎_elim}
+use Prim.Native.Nat.{ℕ, ◌+◌, ◌≤◌, ◌<◌}
+use mathlib.Core.Path.{◌≡◌, refl, sym, ◌∙◌, subst}
+use mathlib.Core.Bool.{false}
+use mathlib.Core.List.{List}
+use mathlib.Core.Logic.{⊎_elim}
 use native.Mathlib.Decide.{dec_lt, ℕ_discrete}
 use native.Mathlib.Omega.{arith}
 use lib.Dec.{ltb}
@@ -19,13 +19,13 @@ use Rattle.model.specs.Limits.{most_records, home_of}
 use Rattle.demand.specs.Priority.{members_of}
 use Rattle.machine.specs.Step.{Job, Running, free, runs}
 use Rattle.machine.specs.Pattern.{pattern_of}
-use Rattle.machine.proofs.View.{waiting_before, running_before}
+use Rattle.machine.proofs.View.{running_before}
 use Rattle.machine.proofs.Quiet.{at_rest}
 use Rattle.finish.specs.Finish.{finish_of}
 use Rattle.finish.specs.Claims.{Short}
 use Rattle.stepper.specs.declared.Machine.{Machine}
-use Rattle.stepper.specs.Lines.{record_task, record_joins, JobsInLine}
-use Rattle.stepper.specs.Follow.{oldest_of, ShowsRunning, Follows, StartsOne, LegalRun}
+use Rattle.stepper.specs.Lines.{record_task, JobsInLine}
+use Rattle.stepper.specs.Follow.{oldest_of, ShowsRunning, LegalRun}
 use Rattle.course.specs.Course.{goes_on, noted, Courses, Turns, Turned, Begins, FinishesNoted}
 use Rattle.course.proofs.Turning.{RunsRecord, job_runs}
 

@@ -1,31 +1,29 @@
 -- Laws of gathering: from a partition's first record ahead up to a tick.
-use Prim.Native.Nat.{ℕ, zero, suc, ◌/◌, ◌%◌, ◌^◌, ◌≤◌, ◌<◌}
-use mathlib.Core.Path.{◌≡◌, refl, sym, ap, ◌∙◌, subst}
-use mathlib.Core.Bool.{Bool, true, false, ◌&&◌}
+use Prim.Native.Nat.{ℕ, suc, ◌/◌, ◌%◌, ◌^◌, ◌≤◌, ◌<◌}
+use mathlib.Core.Path.{◌≡◌, sym, ap, ◌∙◌, subst}
+use mathlib.Core.Bool.{true, false, ◌&&◌}
 use mathlib.Core.List.{List}
 use mathlib.Core.Logic.{⊎_elim}
-use native.Mathlib.Decide.{dec_lt, ℕ_discrete}
+use native.Mathlib.Decide.{dec_lt}
 use native.Mathlib.Omega.{arith}
 use lib.Bits.{bit_or}
 use lib.Dec.{ltb}
 use lib.ListN.{length, get_or}
 use borrow.Author.Tests.{lt-ltb, ltb-true}
 use Rattle.laws.proofs.Every.{clash, and_both, both_and}
-use Rattle.model.specs.declared.order.Order.{Order}
 use Rattle.model.specs.declared.build.Build.{Build}
 use Rattle.model.specs.declared.build.Release.{Release}
-use Rattle.model.specs.Limits.{most_tasks, most_records, home_of}
+use Rattle.model.specs.Limits.{most_records, home_of}
 use Rattle.demand.specs.Priority.{members_of}
 use Rattle.demand.proofs.Priority.{rank_less}
 use Rattle.stepper.specs.Ranks.{rank_bit}
 use Rattle.stepper.specs.Lines.{record_task, record_joins, NextOf}
-use Rattle.stepper.specs.Follow.{rank_of, ReleasedIn, LegalRun}
+use Rattle.stepper.specs.Follow.{rank_of}
 use Rattle.stepper.proofs.Ranks.{bit_none, bit_own, bit_other}
 use Rattle.stepper.proofs.Lines.{joins_rise}
 use Rattle.stepper.proofs.Marks.{bit_either, bit_one, bit_two}
 use Rattle.stepper.proofs.Ready.{key_joins}
-use Rattle.course.specs.declared.turns.Gathered.{Gathered}
-use Rattle.course.specs.Ahead.{Ahead, RunArrays, Gathers, GatheredSo}
+use Rattle.course.specs.Ahead.{Gathers, GatheredSo}
 
 -- the records of partition p from one to another are gathered
 pub record GatheredTo (b : Build) (script : List Release) (p from until a ranks : ℕ) : Type 0 where

@@ -1,9 +1,7 @@
 -- Up to its next event a partition's state only gains what joins: what runs runs on, or it is at rest.
 use Prim.Native.Nat.{ℕ, zero, suc, ◌+◌, ◌-◌, ◌≤◌, ◌<◌}
-use mathlib.Core.Path.{◌≡◌, refl, sym, ap, ◌∙◌, subst, subst₂}
-use mathlib.Core.Bool.{true}
-use mathlib.Core.List.{List, [], ◌∷◌, ◌++◌}
-use native.Mathlib.Decide.{dec_lt}
+use mathlib.Core.Path.{◌≡◌, refl, sym, ap, ◌∙◌, subst}
+use mathlib.Core.List.{List, ◌++◌}
 use native.Mathlib.Nat.{add-suc, add-zero}
 use native.Mathlib.Omega.{arith}
 use lib.Bits.{bit_or}
@@ -11,9 +9,9 @@ use lib.ListN.{length}
 use Rattle.model.specs.declared.order.Order.{Order}
 use Rattle.model.specs.declared.build.Build.{Build}
 use Rattle.model.specs.declared.build.Release.{Release}
-use Rattle.model.specs.Limits.{most_records, home_of}
+use Rattle.model.specs.Limits.{home_of}
 use Rattle.demand.specs.Priority.{members_of}
-use Rattle.machine.specs.Step.{Job, Running, free, runs, State, ended, lowered, released, joining, state_before}
+use Rattle.machine.specs.Step.{Job, Running, free, runs, State, ended, lowered, released, joining}
 use Rattle.machine.specs.Pattern.{pattern_of}
 use Rattle.machine.specs.Claims.{Lasts}
 use Rattle.machine.proofs.View.{goes_on_lem, begins, rests, waiting_before, running_before, joined_by, ViewAt, view}
@@ -22,10 +20,9 @@ use Rattle.machine.proofs.Quiet.{runs_unbroken, quiet_ticks}
 use Rattle.machine.proofs.Isolation.{home_member, member_home}
 use Rattle.stepper.specs.declared.Machine.{Machine}
 use Rattle.stepper.specs.Lines.{record_task, record_joins, JobsInLine}
-use Rattle.stepper.specs.Follow.{oldest_of, Heads, ShowsRunning, Marks, Follows, ReleasedIn, LegalRun}
-use Rattle.stepper.proofs.Lines.{joins_rise, line_joined, line_quiet, released_none}
+use Rattle.stepper.specs.Follow.{oldest_of, Heads, ShowsRunning, Follows, ReleasedIn, LegalRun}
+use Rattle.stepper.proofs.Lines.{line_joined, line_quiet, released_none}
 use Rattle.stepper.proofs.Marks.{heads_later, marks_on}
-use Rattle.course.specs.Ahead.{Ahead}
 
 not_ended : (k a l : ℕ) → ended (runs k a (suc l)) ≡ free → ⊥
 unfolding ended

@@ -1,8 +1,8 @@
 -- What is prepared for the run, a partition's machine before tick 0, and the partitions one after another.
-use Prim.Native.Nat.{ℕ, zero, suc, ◌+◌, ◌-◌, ◌%◌, ◌≤◌, ◌<◌}
+use Prim.Native.Nat.{ℕ, ◌+◌, ◌%◌, ◌≤◌, ◌<◌}
 use mathlib.Core.Path.{◌≡◌, refl, sym, ap, ◌∙◌, subst}
 use mathlib.Core.List.{List, ◌++◌}
-use native.Mathlib.Decide.{dec_lt, dec_le, ℕ_discrete}
+use native.Mathlib.Decide.{dec_lt, ℕ_discrete}
 use native.Mathlib.Omega.{arith}
 use lib.ListN.{length, get_or, drop}
 use lib.Seq.{ext_get_or}
@@ -12,19 +12,19 @@ use Rattle.laws.proofs.Overlaid.{length-overlaid, overlaid_in, overlaid_past}
 use Rattle.model.specs.declared.order.Order.{Order}
 use Rattle.model.specs.declared.build.Build.{Build}
 use Rattle.model.specs.declared.build.Release.{Release}
-use Rattle.model.specs.Limits.{most_tasks, most_partitions, most_records, zero_member, member_of, home_of}
-use Rattle.demand.specs.Priority.{members_of, rank}
+use Rattle.model.specs.Limits.{most_tasks, most_partitions, most_records, zero_member, home_of}
+use Rattle.demand.specs.Priority.{members_of}
 use Rattle.demand.proofs.Priority.{rank_less}
 use Rattle.machine.specs.Step.{state_before}
 use Rattle.finish.specs.Finish.{finish_of, finish_ticks}
 use Rattle.finish.specs.Claims.{Short}
 use Rattle.stepper.specs.declared.Machine.{Machine}
-use Rattle.stepper.specs.Lines.{record_task, record_joins, NextOf}
-use Rattle.stepper.specs.Follow.{rank_of, oldest_of, Heads, Marks, Follows, LegalRun, Chained}
+use Rattle.stepper.specs.Lines.{record_task, NextOf}
+use Rattle.stepper.specs.Follow.{rank_of, oldest_of, Follows, LegalRun}
 use Rattle.stepper.proofs.Ranks.{bit_none}
 use Rattle.stepper.proofs.Above.{ranks_apart}
-use Rattle.course.specs.Ahead.{Ahead, Grouped, LinedUp, RunArrays, HeadsFrom, heads_of}
-use Rattle.course.specs.Course.{Courses, Turns, Begins, FinishesNoted, Runnable}
+use Rattle.course.specs.Ahead.{Grouped, LinedUp, RunArrays, HeadsFrom, heads_of}
+use Rattle.course.specs.Course.{Courses, Begins, FinishesNoted, Runnable}
 use Rattle.course.proofs.Heads.{length_heads, heads_at}
 
 -- a partition's machine before tick 0

@@ -1,14 +1,13 @@
 -- On to the next event.
-use Prim.Native.Nat.{ℕ, zero, suc, ◌+◌, ◌-◌, ◌/◌, ◌^◌, ◌≤◌, ◌<◌}
+use Prim.Native.Nat.{ℕ, suc, ◌+◌, ◌-◌, ◌≤◌, ◌<◌}
 use mathlib.Core.Path.{◌≡◌, refl, sym, ap, ◌∙◌, subst}
-use mathlib.Core.Bool.{Bool, true, false, ◌||◌}
+use mathlib.Core.Bool.{true}
 use mathlib.Core.List.{List}
 use native.Mathlib.Decide.{dec_lt}
 use native.Mathlib.Numerals.{add-one}
 use native.Mathlib.Omega.{arith}
 use lib.Bits.{bit_or}
-use lib.Dec.{ltb}
-use lib.ListN.{length, get_or}
+use lib.ListN.{length}
 use borrow.Author.Tests.{lt-ltb, le-ltb, ltb-true}
 use Rattle.model.specs.declared.order.Order.{Order}
 use Rattle.model.specs.declared.build.Build.{Build}
@@ -33,8 +32,8 @@ use Rattle.stepper.specs.Follow.{ShowsRunning, Follows, StartsOne, ReleasedIn, L
 use Rattle.stepper.proofs.Lines.{joins_rise}
 use Rattle.stepper.proofs.Ready.{key_joins}
 use Rattle.course.specs.declared.turns.Gathered.{Gathered}
-use Rattle.course.specs.Ahead.{Ahead, RunArrays, Gathers, GatheredSo}
-use Rattle.course.specs.Course.{goes_on, event_of, Courses, Turns, Turned}
+use Rattle.course.specs.Ahead.{Gathers, GatheredSo}
+use Rattle.course.specs.Course.{goes_on, event_of, Turns, Turned}
 use Rattle.course.proofs.Passing.{passes_running, passes_free}
 
 -- what runs, by its record

@@ -5,7 +5,6 @@ use Rattle.model.specs.declared.order.Order.{Order}
 use Rattle.model.specs.declared.build.Build.{Build}
 use Rattle.model.specs.declared.build.Release.{Release}
 use Rattle.model.specs.Limits.{most_tasks, most_records, home_of}
-use Rattle.script.specs.Held.{Held}
 use Rattle.stepper.specs.Lines.{record_task, record_joins, NextOf}
 use Rattle.stepper.specs.Follow.{rank_of, LegalRun, ReleasedIn, Chained}
 use Rattle.course.specs.declared.turns.Gathered.{Gathered}

@@ -1,7 +1,6 @@
 -- What the run needs to know, and what it writes.
-use Rattle.std.specs.Prelude.{ℕ, suc, ◌+◌, ◌/◌, ◌≤◌, ◌<◌, ◌≡◌, Bool, true, ◌||◌, List, ltb, length, get_or, set}
+use Rattle.std.specs.Prelude.{ℕ, ◌+◌, ◌/◌, ◌≤◌, ◌<◌, ◌≡◌, Bool, ◌||◌, List, ltb, length, get_or, set}
 use Rattle.laws.specs.Choice.{pick}
-use Rattle.laws.specs.Joined.{overlaid}
 use Rattle.model.specs.declared.order.Order.{Order}
 use Rattle.model.specs.declared.build.Build.{Build}
 use Rattle.model.specs.declared.build.Release.{Release}
@@ -12,7 +11,7 @@ use Rattle.script.specs.Held.{Held}
 use Rattle.finish.specs.Finish.{finish_of}
 use Rattle.finish.specs.Claims.{Short, latest}
 use Rattle.stepper.specs.declared.Machine.{Machine}
-use Rattle.stepper.specs.Lines.{record_task, record_joins}
+use Rattle.stepper.specs.Lines.{record_task}
 use Rattle.stepper.specs.Follow.{rank_of, oldest_of, Follows, StartsOne}
 use Rattle.course.specs.Ahead.{Ahead, RunArrays}
 
