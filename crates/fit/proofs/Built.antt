@@ -2,10 +2,9 @@
 use mathlib.Core.Path.{◌≡◌, refl, sym, ap, ap₂, ◌∙◌, subst}
 use mathlib.Core.List.{List}
 use mathlib.Core.Logic.{◌⊎◌, inl, inr}
-use Prim.Native.Nat.{ℕ, ◌≤◌, ◌<◌, ◌^◌}
+use Prim.Native.Nat.{ℕ, ◌≤◌, ◌<◌}
 use native.Mathlib.Omega.{arith}
 use lib.Dec.{eqb}
-use lib.ListN.{length, get_or}
 use Rattle.laws.specs.Joined.{filled}
 use Rattle.laws.proofs.Filled.{filled_in, filled_past}
 use Rattle.model.specs.declared.order.Order.{Order}
@@ -19,15 +18,15 @@ use Rattle.model.specs.declared.answer.CallCause.TheVariants.{FirstFit}
 use Rattle.model.specs.Limits.{most_tasks, zero_member, member_of, home_of, empty_build}
 use Rattle.model.specs.Rules.{WithinLimits}
 use Rattle.demand.specs.declared.Verdict.TheVariants.{Passes}
-use Rattle.demand.specs.Priority.{Members, members_of, rank}
-use Rattle.demand.specs.Test.{verdict, response_of}
+use Rattle.demand.specs.Priority.{members_of}
+use Rattle.demand.specs.Test.{response_of}
 use Rattle.demand.proofs.Membership.{rank_same, verdict_same}
 use Rattle.turns.specs.Turns.{home_at}
 use Rattle.fitting.specs.declared.Placing.{Placing}
 use Rattle.fitting.specs.declared.Outcome.{Outcome}
 use Rattle.fitting.specs.Steps.{going_on, refusing, living_in, first_fit}
 use Rattle.fitting.specs.Claims.{Placed, RefusedIn}
-use Rattle.fitting.proofs.Claims.{placed_all, places, refuses, one_of_two, first_fit_places}
+use Rattle.fitting.proofs.Claims.{refuses, one_of_two, first_fit_places}
 use Rattle.fitting.proofs.Turning.{refused_says}
 use Rattle.fit.specs.declared.records.Fitted.{Fitted}
 use Rattle.fit.specs.Recorded.{recorded_as, build_of, fitted_by, recorded, fitted_of}

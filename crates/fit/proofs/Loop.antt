@@ -1,10 +1,10 @@
 -- The turns, as the code takes them: before, in and after its loop.
 use mathlib.Core.Path.{◌≡◌, refl, sym, ap, ap₂, ◌∙◌, subst}
-use mathlib.Core.Bool.{true, false, not}
+use mathlib.Core.Bool.{true, not}
 use mathlib.Core.List.{List}
 use Prim.Native.Nat.{ℕ, suc, ◌+◌, ◌-◌, ◌≤◌, ◌<◌}
 use native.Mathlib.Omega.{arith}
-use lib.ListN.{length, get_or, replicate, get_or-replicate}
+use lib.ListN.{length, replicate, get_or-replicate}
 use borrow.Author.Tests.{eq-eqb}
 use Rattle.laws.proofs.Every.{clash}
 use Rattle.laws.proofs.Filled.{get_or_alike}
@@ -17,7 +17,7 @@ use Rattle.roster.proofs.Lining.{lined_none}
 use Rattle.turns.specs.Turns.{unplaced, home_at, is_unplaced}
 use Rattle.fitting.specs.declared.Placing.{Placing}
 use Rattle.fitting.specs.declared.Outcome.{Outcome}
-use Rattle.fitting.specs.Steps.{nothing_placed, going_on, turn_taken, turns_taken, first_fit}
+use Rattle.fitting.specs.Steps.{nothing_placed, going_on, turns_taken, first_fit}
 use Rattle.fitting.proofs.Turning.{steps_none, steps_end, steps_next}
 use Rattle.fitting.proofs.Claims.{start}
 use Rattle.fit.specs.Taking.{Lines, Taken, AllTaken}

@@ -1,6 +1,6 @@
 -- One turn: what comes of it, by the partition that takes the task, or that none does.
 use mathlib.Core.Path.{◌≡◌, refl, sym, ap, ◌∙◌, subst}
-use mathlib.Core.Bool.{Bool, true, false, not}
+use mathlib.Core.Bool.{true, false, not}
 use mathlib.Core.List.{List}
 use mathlib.Core.Logic.{◌≢◌}
 use Prim.Native.Nat.{ℕ, ◌+◌, ◌-◌, ◌≤◌, ◌<◌}
@@ -15,8 +15,7 @@ use Rattle.model.specs.declared.order.Order.{Order}
 use Rattle.model.specs.declared.answer.Answer.TheVariants.{Done, Refused}
 use Rattle.model.specs.declared.answer.Refusal.TheVariants.{OfCall}
 use Rattle.model.specs.declared.answer.CallCause.TheVariants.{FirstFit}
-use Rattle.model.specs.Limits.{most_tasks, task_of}
-use Rattle.model.specs.Rules.{WithinLimits}
+use Rattle.model.specs.Limits.{most_tasks}
 use Rattle.search.specs.declared.Found.{Found}
 use Rattle.search.specs.declared.Found.TheVariants.{At, Nothing}
 use Rattle.search.proofs.First.{Firstly, first_says}
@@ -34,11 +33,10 @@ use Rattle.turns.specs.Claims.{IsNext}
 use Rattle.turns.proofs.Turns.{next_is, none_next}
 use Rattle.fitting.specs.declared.Placing.{Placing}
 use Rattle.fitting.specs.declared.Outcome.{Outcome}
-use Rattle.fitting.specs.Steps.{put, open_next, going_on, refusing, living_in, accepts, lowest_accepting, opening, turn_taken}
-use Rattle.fitting.specs.Standing.{waiting, Stands}
-use Rattle.fitting.proofs.Put.{one_waits, unplaced_says, says_living, living_says, put_here, put_other, put_placed, put-unplaced, living_kept}
+use Rattle.fitting.specs.Steps.{put, open_next, going_on, refusing, living_in, accepts, lowest_accepting, opening}
+use Rattle.fitting.proofs.Put.{one_waits, put_here, put_other, put_placed, put-unplaced, living_kept}
 use Rattle.fitting.proofs.Standing.{stands_accepted, stands_opened, alone_there}
-use Rattle.fitting.proofs.Turning.{widths, step-idle, step-put, step_open, step_refuse, opening_new, opening_none}
+use Rattle.fitting.proofs.Turning.{widths, step-put, step_open, step_refuse, opening_new, opening_none}
 use Rattle.placing.specs.Known.{OpenUntil, Known, InLine, Trying, Lowest}
 use Rattle.placing.proofs.Beside.{open_more}
 use Rattle.fit.specs.Taking.{Lines, Taking, Taken}

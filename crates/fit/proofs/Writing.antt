@@ -9,10 +9,9 @@ use native.Mathlib.Omega.{arith}
 use lib.Dec.{eqb}
 use lib.ListN.{length, get_or, set, replicate, length-set}
 use lib.Seq.{get_or-set_same, get_or-set_other, ext_get_or}
-use borrow.Author.Tests.{eq-eqb, ne_eqb, eqb-true, eqb-false}
+use borrow.Author.Tests.{eqb-true, eqb-false}
 use Rattle.laws.specs.Choice.{pick}
 use Rattle.laws.specs.Joined.{listed, filled}
-use Rattle.laws.proofs.Every.{clash, both_and, and_both}
 use Rattle.laws.proofs.Joined.{get_or-listed}
 use Rattle.laws.proofs.Filled.{length-filled, filled_in, filled_past, get_or_alike}
 use Rattle.model.specs.declared.order.Order.{Order}
@@ -23,12 +22,12 @@ use Rattle.demand.specs.Test.{verdict, response_of}
 use Rattle.demand.proofs.Membership.{rank_same}
 use Rattle.roster.specs.Keys.{home_in, key_number, key_at, number_at, lives_in}
 use Rattle.roster.specs.Lined.{Lined, PartFrom, part_size}
-use Rattle.roster.proofs.Runs.{run_stops, run_most}
+use Rattle.roster.proofs.Runs.{run_stops}
 use Rattle.roster.proofs.Ranks.{place_in, rank_is}
 use Rattle.roster.proofs.Lining.{home_there, homes_rise, lined_part, lives_here, ranked_in, one_place}
 use Rattle.turns.specs.Turns.{home_at, is_unplaced}
 use Rattle.fitting.specs.Steps.{living_in}
-use Rattle.fitting.proofs.Put.{none_waits, unplaced_says, living_says}
+use Rattle.fitting.proofs.Put.{none_waits}
 use Rattle.fit.specs.Recorded.{recorded_as}
 use Rattle.fit.specs.Taking.{Recording}
 

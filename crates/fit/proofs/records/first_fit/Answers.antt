@@ -1,0 +1,23 @@
+use mathlib.Core.Path.{refl, ap, ◌∙◌}
+use Rattle.model.specs.declared.build.Build.{Build}
+use Rattle.model.specs.declared.answer.Answer.TheVariants.{Refused}
+use Rattle.fit.proofs.Built.{recorded_refused, recorded_done}
+use Rattle.fit.proofs.records.first_fit.Goals as goal
+
+pub returns-in-Refused : goal.returns-in-Refused
+returns-in-Refused c =
+    let turns = c.take_turns-outcome in
+    ap (λ (b : Build). record { answer = Refused c.in-Refused.cause; build = b }) c.empty.ensures
+    ∙ recorded_refused c.args.order turns.result turns.ensures.answer c.in-Refused.cause c.in-Refused.is
+
+pub records_of-members-requires : goal.records_of-members-requires
+records_of-members-requires c = (let turns = c.take_turns-outcome in
+    let lines = turns.ensures.lines _ c.in_default.is in
+    record { order = c.args.order; placing = turns.result.placing; lasts = lines.0; limits = c.requires; all = refl; lines = lines.1 })
+
+pub returns : goal.returns
+returns c =
+    let turns = c.take_turns-outcome in
+    recorded_done c.args.order turns.result turns.ensures.answer _ c.records_of-members.result c.in_default.is (c.records_of-members.ensures (let turns = c.take_turns-outcome in
+    let lines = turns.ensures.lines _ c.in_default.is in
+    record { order = c.args.order; placing = turns.result.placing; lasts = lines.0; limits = c.requires; all = refl; lines = lines.1 }))
