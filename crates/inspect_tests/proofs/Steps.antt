@@ -1,6 +1,6 @@
 -- What each step of the tests needs and gives: a partition at a place of the line, and the partition of one task.
 use mathlib.Core.Path.{◌≡◌, refl, sym, ap, ◌∙◌, subst}
-use mathlib.Core.Bool.{Bool, true, false}
+use mathlib.Core.Bool.{Bool, false}
 use mathlib.Core.List.{List}
 use Prim.Native.Nat.{ℕ, ◌+◌, ◌-◌, ◌≤◌, ◌<◌}
 use native.Mathlib.Decide.{ℕ_discrete}
@@ -11,7 +11,7 @@ use borrow.Author.Tests.{eq-eqb, ltb-true, ltb-false}
 use Rattle.model.specs.declared.order.Order.{Order}
 use Rattle.model.specs.declared.build.Member.{Member}
 use Rattle.model.specs.declared.build.Build.{Build}
-use Rattle.model.specs.Limits.{most_tasks, home_of}
+use Rattle.model.specs.Limits.{most_tasks}
 use Rattle.demand.specs.Priority.{members_of, rank}
 use Rattle.demand.specs.Test.{response_of}
 use Rattle.asked.specs.Rows.{RowsFit, row_task, asked_by, blocking_in}
@@ -24,9 +24,8 @@ use Rattle.roster.proofs.Ranks.{rank_is}
 use Rattle.roster.proofs.Runs.{run_on, run_most, run_passes, run_stops}
 use Rattle.trial.specs.Known.{Apart, Bounds}
 use Rattle.inspect_members.proofs.Stretches.{homes_rise, placed}
-use Rattle.inspect_tests.specs.declared.Results.{Results}
 use Rattle.inspect_tests.specs.Rules.{window_there}
-use Rattle.inspect_tests.specs.Results.{Lineup, SomeLineup, verdict_here, OpenBelow, TestedRanks, TestedBefore, ResultsFor, TaskThere}
+use Rattle.inspect_tests.specs.Results.{SomeLineup, verdict_here, OpenBelow, TestedRanks, TestedBefore, ResultsFor, TaskThere}
 use Rattle.inspect_tests.proofs.Parts.{few_tasks, size_few, ranked, own_place, own_apart, next_ends, fit, verdict_at_lem, unmet_rows, bounds_of, still_after, fails_after, responses_after}
 use Rattle.inspect_tests.proofs.Verdicts.{window_over_lem}
 

@@ -13,61 +13,42 @@ use Rattle.inspect_tests.proofs.test_part.Statement.{statement}
 use Rattle.inspect_tests.proofs.test_part.Tie as tie
 
 -- how many there are, and their keys
-size_is : (m : tie.After-members-of) → let s = m.before.before.before.before in m.members-of.result ≡ part_size s.args.keys.now s.args.tasks s.args.first (home_in (key_at s.args.keys.now s.args.first))
+
+size_is : (m : tie.After-members_of-size) → m.members_of-size.result ≡ part_size m.args.keys.now m.args.tasks m.args.first (home_in (key_at m.args.keys.now m.args.first))
 size_is m =
-    let s = m.before.before.before.before in
-    m.members-of.ensures.0 ∙ ap (part_size s.args.keys.now s.args.tasks s.args.first) m.before.before.home-in.ensures
+    m.members_of-size.ensures.0 ∙ ap (part_size m.args.keys.now m.args.tasks m.args.first) m.home_in.ensures
 
-copied : (m : tie.After-members-of) → let s = m.before.before.before.before in Copied s.args.keys.now s.args.first m.members-of.new.1.1.1.1.0 m.members-of.result
+copied : (m : tie.After-members_of-size) → Copied m.args.keys.now m.args.first m.members_of-size.new.own m.members_of-size.result
 copied m r l =
-    let s = m.before.before.before.before in
-    ap (λ (xs : List ℕ). get_or xs r 0) m.members-of.ensures.1 ∙ overlaid_in (λ i. get_or s.args.keys.now (s.args.first + i) 0) _ m.members-of.result r 0 l
+    ap (λ (xs : List ℕ). get_or xs r 0) m.members_of-size.ensures.1 ∙ overlaid_in (λ i. get_or m.args.keys.now (m.args.first + i) 0) _ m.members_of-size.result r 0 l
 
-mul-home-in : tie.Need-overflow-mul-home-in
-mul-home-in c = search rules
+offset_bounds-keys-first : tie.Need-offset_bounds-keys-first
+offset_bounds-keys-first c = search rules
 
-element-copy-out-home-in : tie.Need-element-copy-out-home-in
-element-copy-out-home-in c = search rules
+bounds-keys-first : tie.Need-bounds-keys-first
+bounds-keys-first c = search rules
 
-home-in-requires : tie.Need-home-in-requires
-home-in-requires c κs = search rules
+home_in-requires : tie.Need-home_in-requires
+home_in-requires c κs = search rules
 
-members-of-requires : tie.Need-members-of-requires
-members-of-requires c κs =
-    let s = c.before.before.before in
-    let some = s.requires.1 in
-    (omega (arith, s.requires.0), few_tasks s.args.table.now s.args.keys.now s.args.tasks some.0 some.1 some.2, refl)
+members_of-size-requires : tie.Need-members_of-size-requires
+members_of-size-requires c κs =
+    let some = c.requires.1 in
+    (omega (arith, c.requires.0), few_tasks c.args.table.now c.args.keys.now c.args.tasks some.0 some.1 some.2, refl)
 
-fill-rows-requires : tie.Need-fill-rows-requires
-fill-rows-requires c κs =
-    let m = c.before.before in
-    let s = m.before.before.before.before in
-    (part_few s.args.table.now s.args.keys.now s.args.tasks s.requires.1 s.args.first m.members-of.result (home_in (key_at s.args.keys.now s.args.first)) (size_is m), refl)
+fill_rows-requires : tie.Need-fill_rows-requires
+fill_rows-requires c κs =
+    (part_few c.args.table.now c.args.keys.now c.args.tasks c.requires.1 c.args.first c.members_of-size.result (home_in (key_at c.args.keys.now c.args.first)) (size_is c.before.before), refl)
 
-test-members-requires : tie.Need-test-members-requires
-test-members-requires c κs =
-    let f = c.before.before.before.before in
-    let m = f.before.before.before in
-    let s = m.before.before.before.before in
-    let a = s.args in
-    part_needs a.table.now a.keys.now a.tasks a.first a.lowest a.lasts.now a.worsts.now s.requires.1 s.requires.0 s.requires.2 _ _ m.members-of.result (size_is m) (copied m) f.fill-rows.ensures
+test_members-failing-requires : tie.Need-test_members-failing-requires
+test_members-failing-requires c κs =
+    let a = c.args in
+    part_needs a.table.now a.keys.now a.tasks a.first a.lowest a.lasts.now a.worsts.now c.requires.1 c.requires.0 c.requires.2 _ _ c.members_of-size.result (size_is c.before.before.before.before.before.before.before) (copied c.before.before.before.before.before.before.before) c.fill_rows.ensures
 
 returns : tie.Need-returns
 returns c =
-    let f = c.before.before.before.before.before in
-    let m = f.before.before.before in
-    let s = m.before.before.before.before in
-    let a = s.args in
-    part_gives a.table.now a.keys.now a.tasks a.first a.lowest a.lasts.now a.worsts.now s.requires.1 s.requires.0 s.requires.2 _ _ m.members-of.result (size_is m) _ _ _ (copied m) f.fill-rows.ensures c.test-members.ensures
+    let a = c.args in
+    part_gives a.table.now a.keys.now a.tasks a.first a.lowest a.lasts.now a.worsts.now c.requires.1 c.requires.0 c.requires.2 _ _ c.members_of-size.result (size_is c.before.before.before.before.before.before.before.before) _ _ _ (copied c.before.before.before.before.before.before.before.before) c.fill_rows.ensures c.test_members-failing.ensures
 
-pub test-part-spec : {M : Type 1} → statement M
-test-part-spec =
-    tie.close
-    (tie.spec
-    mul-home-in
-    element-copy-out-home-in
-    home-in-requires
-    members-of-requires
-    fill-rows-requires
-    test-members-requires
-    returns)
+pub test_part_spec : {M : Type 1} → statement M
+test_part_spec = tie.close (tie.spec offset_bounds-keys-first bounds-keys-first home_in-requires members_of-size-requires fill_rows-requires test_members-failing-requires returns)
