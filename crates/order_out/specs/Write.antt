@@ -1,5 +1,5 @@
 -- The writer's two halves: columns make an order (13), and an order is written (3, 4, then task by task 7 to 10, then 12).
-use Rattle.std.specs.Prelude.{ℕ, suc, ◌≤◌, ◌<◌, ◌^◌, min, ◌≡◌, Bool, false, List, [], ◌∷◌, ◌++◌, length, get_or, eqb}
+use Rattle.std.specs.Prelude.{ℕ, suc, ◌≤◌, ◌<◌, ◌^◌, min, ◌≡◌, Bool, false, List, ◌∷◌, ◌++◌, length, get_or, eqb}
 use Rattle.laws.specs.Choice.{pick}
 use Rattle.laws.specs.Joined.{filled}
 use Rattle.bits.specs.Layout.{FitIn}
