@@ -10,7 +10,7 @@ fn main() {
     let archive = PathBuf::from(&directory).join("libjefkantu.a");
     println!("cargo:rerun-if-changed={}", archive.display());
     let Ok(archive) = archive.canonicalize() else {
-        eprintln!("there is no {}: `rt staticlib jefkantu` writes it", archive.display());
+        eprintln!("there is no {}: `tests/library` writes it", archive.display());
         std::process::exit(1)
     };
     let directory = archive.parent().expect("a file is in a directory");
