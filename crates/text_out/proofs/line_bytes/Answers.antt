@@ -1,0 +1,7 @@
+use borrow.Author.Rules.{rules}
+use native.Mathlib.Omega.{arith}
+use Rattle.form.proofs.Written.{length_line}
+use Rattle.text_out.proofs.line_bytes.Goals as goal
+
+pub returns : goal.returns
+returns c = (omega (arith, length_line c.args.task), search rules)
