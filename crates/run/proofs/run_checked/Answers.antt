@@ -1,0 +1,24 @@
+use mathlib.Core.Path.{refl}
+use Rattle.run.proofs.Script.{ran_none, runnable, ran_all}
+use Rattle.run.proofs.run_checked.Goals as goal
+
+pub judge_script-judged-requires : goal.judge_script-judged-requires
+judge_script-judged-requires c = (c.requires.limits, refl, refl)
+
+pub run_all-requires : goal.run_all-requires
+run_all-requires c =
+    let a = c.args in
+    runnable a.order a.build a.script.now a.out.now _ _ c.judge_script-judged.ensures c.requires c.in-Done.is
+
+pub returns-in-Refused : goal.returns-in-Refused
+returns-in-Refused c =
+    let a = c.args in
+    ran_none a.order a.build a.script.now a.out.now _ _ c.judge_script-judged.ensures c.in-Refused.is
+
+pub returns-in-Done : goal.returns-in-Done
+returns-in-Done c =
+    let a = c.args in
+    let judged = c.judge_script-judged.ensures in
+    let done = c.in-Done.is in
+    ran_all a.order a.build a.script.now a.out.now _ _ judged c.requires done
+    (c.run_all.ensures (runnable a.order a.build a.script.now a.out.now _ _ judged c.requires done))
