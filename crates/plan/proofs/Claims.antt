@@ -15,7 +15,7 @@ use Rattle.model.specs.declared.answer.Refusal.{Refusal}
 use Rattle.model.specs.declared.answer.Refusal.TheVariants.{OfOrder, OfCall}
 use Rattle.model.specs.declared.answer.CallCause.TheVariants.{FirstFit, Output}
 use Rattle.model.specs.Answer.{output_after}
-use Rattle.model.specs.Rules.{Rule, first_broken, room_rules, WithinLimits, OneRightAnswer}
+use Rattle.model.specs.Rules.{first_broken, room_rules, WithinLimits, OneRightAnswer}
 use Rattle.model.proofs.Output.{only_counted_front}
 use Rattle.model.proofs.Rules.{AllPass, never, done_pass, pass_done, done_count, pass_front, pass_rest, room_on, room_stop, room_fits, one_right_answer}
 use Rattle.order.specs.Order.{order_at, order_rules, read_order}

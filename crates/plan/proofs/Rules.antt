@@ -1,21 +1,17 @@
 -- Laws of the planner's rules: the parts in turn.
 use mathlib.Core.Path.{◌≡◌, refl, sym, ap, ◌∙◌}
-use mathlib.Core.Bool.{true, false}
+use mathlib.Core.Bool.{false}
 use mathlib.Core.List.{List}
-use mathlib.Core.Logic.{◌⊎◌, inl, inr}
 use Prim.Native.Nat.{ℕ}
 use Rattle.laws.proofs.Every.{clash}
 use Rattle.model.specs.declared.order.Order.{Order}
 use Rattle.model.specs.declared.answer.Answer.{Answer}
 use Rattle.model.specs.declared.answer.Answer.TheVariants.{Done, Refused}
 use Rattle.model.specs.declared.answer.Refusal.{Refusal}
-use Rattle.model.specs.Rules.{first_broken, TestsTell, room_rules, WithinLimits}
+use Rattle.model.specs.Rules.{first_broken, TestsTell, room_rules}
 use Rattle.model.proofs.Rules.{AllPass, never, pass_on, stop, any_count, tell_append, tell_one, room_tells}
 use Rattle.order.specs.Order.{order_at, order_rules}
 use Rattle.order.proofs.Rules.{order_tells}
-use Rattle.order.proofs.Reading.{within_limits}
-use Rattle.fitting.specs.declared.Placing.{Placing}
-use Rattle.fitting.specs.Steps.{going_on, first_fit}
 use Rattle.fit.specs.declared.records.Fitted.{Fitted}
 use Rattle.fit.specs.Recorded.{fitted_of}
 use Rattle.fit.proofs.Built.{fitted_done}
