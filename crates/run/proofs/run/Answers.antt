@@ -11,7 +11,6 @@ use Rattle.run.proofs.Front.{ran_front}
 use Rattle.run.proofs.run.Goals as goal
 
 -- how many records the script has
-
 records_are : (s : List ℕ) → length s / 6 ≡ records_in s
 unfolding records_in
 records_are s = refl
