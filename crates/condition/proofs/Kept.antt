@@ -1,19 +1,18 @@
 -- Condition 3, proved: from the check's rules to the machine's and the theory's premises.
-use Prim.Native.Nat.{ℕ, ◌≤◌, ◌<◌}
+use Prim.Native.Nat.{ℕ, ◌<◌}
 use mathlib.Core.Path.{◌≡◌, refl, sym}
-use mathlib.Core.List.{List}
 use native.Mathlib.Decide.{dec_lt}
 use native.Mathlib.Omega.{arith}
 use Rattle.model.specs.declared.order.Order.{Order}
 use Rattle.model.specs.declared.build.Build.{Build}
-use Rattle.model.specs.Limits.{task_of, place_of, home_of}
-use Rattle.model.specs.Processors.{volume_of, processor_of, OfPartition}
+use Rattle.model.specs.Limits.{place_of, home_of}
+use Rattle.model.specs.Processors.{processor_of, OfPartition}
 use Rattle.order.specs.Order.{order_at}
 use Rattle.build.specs.Build.{build_at}
 use Rattle.demand.specs.Priority.{members_of}
 use Rattle.machine.specs.Step.{Pattern}
 use Rattle.machine.specs.Pattern.{LegalPattern}
-use Rattle.machine.specs.Box.{Finishes, Occupies}
+use Rattle.machine.specs.Box.{Finishes}
 use Rattle.machine.specs.Claims.{WideAndApart}
 use Rattle.machine.proofs.Box.{runs_own_jobs, occupies_own, serves_one, occupies_width}
 use Rattle.machine.proofs.Isolation.{home_member}

@@ -1,12 +1,11 @@
 -- Every finish tick that an accepted run writes is in time: the job that the machine finishes then is one of condition 3's.
 use Prim.Native.Nat.{ℕ, ◌<◌}
-use mathlib.Core.Path.{◌≡◌, refl, sym, ap, ◌∙◌, subst}
+use mathlib.Core.Path.{◌≡◌, sym, subst}
 use mathlib.Core.List.{List}
 use native.Mathlib.Omega.{arith}
 use lib.ListN.{length, get_or}
 use Rattle.model.specs.declared.answer.Answer.{Answer}
 use Rattle.model.specs.declared.answer.Answer.TheVariants.{Done}
-use Rattle.model.specs.Limits.{home_of}
 use Rattle.order.specs.Order.{order_at}
 use Rattle.build.specs.Build.{build_at}
 use Rattle.machine.specs.Pattern.{record_of, pattern_of}
@@ -16,7 +15,7 @@ use Rattle.busy.proofs.Passing.{records_are_in_time}
 use Rattle.inspect.proofs.Claims.{done_accepts}
 use Rattle.script.specs.Script.{records_in, script_of}
 use Rattle.script.proofs.Records.{script_length_lem}
-use Rattle.run.specs.Run.{run_answer, Ran}
+use Rattle.run.specs.Run.{Ran}
 use Rattle.run.proofs.Claims.{done_parts, writes_finishes}
 use Rattle.condition.specs.Runs.{FinishedInTime, RunsInTime}
 
