@@ -4,6 +4,7 @@
 use model::{Answer, Order};
 use std::env::{Env, FillError};
 use std::io;
+use std::io::Read;
 
 // One byte more than the longest text that is taken.
 const MOST_READ: usize = 65_536;
@@ -28,13 +29,16 @@ fn plan_typed(rt: &(impl Print + Eprint), processors: u32, text: &[u8]) -> io::R
     }
 }
 
-fn plan_input(rt: &(impl Input + Print + Eprint), processors: u32) -> io::Result<()> {
+fn plan_input(
+    rt: &(impl Print + Eprint),
+    input: &mut impl Read,
+    processors: u32,
+) -> io::Result<()> {
     let mut text = [0u8; MOST_READ];
-    let mut input = rt.reader();
-    let size = show::read_full(&mut input, &mut text);
+    let size = show::read_full(input, &mut text);
     if size == MOST_READ {
         show_too_long(rt)
-    } else if show::has_ended(&mut input) {
+    } else if show::has_ended(input) {
         plan_typed(rt, processors, &text[..size])
     } else {
         show::show_unreadable(rt)
@@ -56,7 +60,7 @@ fn main(rt: HostRuntime) -> io::Result<()> {
     };
     let digits = typed::take_digits(&argument[..size], 0);
     if lacks_argument(&rt, 2) && size > 0 && digits.next == size {
-        plan_input(&rt, digits.value)
+        plan_input(&rt, &mut rt.stdin(), digits.value)
     } else {
         show_usage(&rt)
     }

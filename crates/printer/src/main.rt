@@ -9,7 +9,7 @@ const MOST_READ: usize = Order::MOST_BYTES + 1;
 
 fn main(rt: HostRuntime) -> io::Result<()> {
     let mut order = [0u8; MOST_READ];
-    let mut input = rt.reader();
+    let mut input = rt.stdin();
     let size = show::read_full(&mut input, &mut order);
     if size == MOST_READ || show::has_ended(&mut input) {
         show::show_plan(&rt, &order[..size])

@@ -360,7 +360,7 @@ fn next_case(rt: &impl Print, input: &mut impl Read) -> io::Result<bool> {
 }
 
 fn main(rt: HostRuntime) -> io::Result<()> {
-    let mut input = rt.reader();
+    let mut input = rt.stdin();
     let mut left = MOST_CASES;
     while left > 0 && next_case(&rt, &mut input)? {
         left -= 1;
