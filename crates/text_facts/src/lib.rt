@@ -1,3 +1,2 @@
 // What the order form's text means, read and written; no code.
 #![tactic(auto)]
-
