@@ -1,17 +1,17 @@
 -- Whatever the planner writes, the check accepts: the build that first fit gives keeps every rule of the check.
-use Prim.Native.Nat.{ℕ, ◌+◌, ◌<◌}
+use Prim.Native.Nat.{ℕ, ◌<◌}
 use mathlib.Core.Path.{◌≡◌, sym, ap, ◌∙◌, subst}
 use mathlib.Core.List.{List, [], ◌++◌, append-nil}
 use mathlib.Core.Logic.{◌⊎◌, inl, inr}
 use native.Mathlib.Omega.{arith}
-use lib.ListN.{length, drop}
+use lib.ListN.{drop}
 use lib.Seq.{take_at}
 use Rattle.laws.proofs.Filled.{length-filled}
 use Rattle.model.specs.declared.order.Order.{Order}
 use Rattle.model.specs.declared.build.Build.{Build}
 use Rattle.model.specs.declared.answer.Answer.{Answer}
 use Rattle.model.specs.declared.answer.Answer.TheVariants.{Done}
-use Rattle.model.specs.Limits.{most_tasks, zero_member, home_of}
+use Rattle.model.specs.Limits.{most_tasks, zero_member}
 use Rattle.model.specs.Processors.{volume_of, processor_of, AmongLowest}
 use Rattle.model.specs.Answer.{output_after}
 use Rattle.model.specs.Rules.{WithinLimits}
@@ -19,10 +19,9 @@ use Rattle.model.proofs.Output.{after_done}
 use Rattle.model.proofs.Rules.{AllPass, never}
 use Rattle.order.specs.Order.{order_at, order_rules}
 use Rattle.order.proofs.Reading.{within_limits, header_holds, spares_hold}
-use Rattle.build.specs.Build.{build_at, build_bytes, build_header_of, FieldsFit}
+use Rattle.build.specs.Build.{build_at, build_bytes, build_header_of}
 use Rattle.build_facts.specs.Facts.{ZeroPast, Holds}
 use Rattle.build_facts.proofs.Back.{length_right, reads_back}
-use Rattle.turns.specs.Turns.{home_at}
 use Rattle.fitting.specs.declared.Placing.{Placing}
 use Rattle.fitting.specs.Steps.{going_on, refusing, first_fit}
 use Rattle.fitting.specs.Claims.{Placed}
