@@ -1,3 +1,2 @@
 // What the customer was promised, in one file; no code.
 #![tactic(auto)]
-
