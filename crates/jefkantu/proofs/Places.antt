@@ -25,7 +25,7 @@ use Rattle.form.specs.Text.{line_count, text_order}
 use Rattle.form.proofs.Written.{written_is_short}
 use Rattle.text.specs.Read.{line_rules, text_rules, read_text_rules, read_text_answer}
 use Rattle.text_out.specs.Write.{text_of, write_text_rules, write_text_answer}
-use Rattle.build.specs.Build.{build_header_of, build_at}
+use Rattle.build.specs.Build.{build_at}
 use Rattle.build.proofs.Fits.{header_fits}
 use Rattle.fit.specs.Recorded.{fitted_of}
 use Rattle.fit.proofs.Built.{fitted_is_refused}
