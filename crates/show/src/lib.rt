@@ -3,7 +3,7 @@
 
 ghost use Rattle.std.specs.Prelude.{◌≤◌};
 ghost use Rattle.model.specs.Limits.{most_tasks, most_partitions};
-ghost use Rattle.show.specs.Counts.{IsPrefixLen};
+ghost use Rattle.io.specs.Counts.{IsPrefixLen};
 
 use build::BuildHeader;
 use model::{Answer, Build, Member, Order, Partition, Refusal};
