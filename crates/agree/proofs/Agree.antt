@@ -1,4 +1,5 @@
 -- Whatever the planner writes, the check accepts: the build that first fit gives keeps every rule of the check.
+use Rattle.std.specs.Prelude.{Ok}
 use Prim.Native.Nat.{ℕ, ◌<◌}
 use mathlib.Core.Path.{◌≡◌, sym, ap, ◌∙◌, subst}
 use mathlib.Core.List.{List, [], ◌++◌, append-nil}
@@ -9,8 +10,7 @@ use lib.Seq.{take_at}
 use Rattle.laws.proofs.Filled.{length-filled}
 use Rattle.model.specs.declared.order.Order.{Order}
 use Rattle.model.specs.declared.build.Build.{Build}
-use Rattle.model.specs.declared.answer.Answer.{Answer}
-use Rattle.model.specs.declared.answer.Answer.TheVariants.{Done}
+use Rattle.model.specs.Kinds.{Answer}
 use Rattle.model.specs.Limits.{most_tasks, zero_member}
 use Rattle.model.specs.Processors.{volume_of, processor_of, AmongLowest}
 use Rattle.model.specs.Answer.{output_after}
@@ -142,15 +142,15 @@ module _ (order : List ℕ) (rules : AllPass (order_rules order)) (s : Placing) 
         };
       }
 
-  pub checked : check_answer order (build_bytes b) ≡ Done 0
+  pub checked : check_answer order (build_bytes b) ≡ Ok 0
   checked = accepted_done order (build_bytes b) order_right layout_right (subst (λ (x : Build). AcceptedBuild o x) (sym holds.build) accepted)
 
 -- the same of whatever first fit gives
-fitted_checked : (order : List ℕ) → AllPass (order_rules order) → (done : ℕ) → (fitted_of (order_at order)).answer ≡ Done done → check_answer order (build_bytes (fitted_of (order_at order)).build) ≡ Done 0
+fitted_checked : (order : List ℕ) → AllPass (order_rules order) → (done : ℕ) → (fitted_of (order_at order)).answer ≡ Ok done → check_answer order (build_bytes (fitted_of (order_at order)).build) ≡ Ok 0
 fitted_checked order rules done e = go (one_of_two (order_at order) (within_limits order rules))
   where
-    go : ((s : Placing) × (first_fit (order_at order) ≡ going_on s)) ⊎ ((s : Placing) × ((i : ℕ) × (first_fit (order_at order) ≡ refusing s i))) → check_answer order (build_bytes (fitted_of (order_at order)).build) ≡ Done 0
-    go (inl (s, f)) = subst (λ (x : Fitted). check_answer order (build_bytes x.build) ≡ Done 0) (sym (fitted_done (order_at order) s f)) (checked order rules s f)
+    go : ((s : Placing) × (first_fit (order_at order) ≡ going_on s)) ⊎ ((s : Placing) × ((i : ℕ) × (first_fit (order_at order) ≡ refusing s i))) → check_answer order (build_bytes (fitted_of (order_at order)).build) ≡ Ok 0
+    go (inl (s, f)) = subst (λ (x : Fitted). check_answer order (build_bytes x.build) ≡ Ok 0) (sym (fitted_done (order_at order) s f)) (checked order rules s f)
     go (inr (s, (i, f))) = never (sym (ap (λ (x : Fitted). x.answer) (fitted_refused (order_at order) s i f)) ∙ e)
 
 pub planned_is_accepted : PlannedIsAccepted

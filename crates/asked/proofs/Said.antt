@@ -1,12 +1,11 @@
 -- What the search's answer says.
+use Rattle.std.specs.Prelude.{Some, None, Option}
 use mathlib.Core.Path.{◌≡◌, subst}
 use Prim.Native.Nat.{ℕ, ◌+◌, ◌≤◌}
 use native.Mathlib.Omega.{arith}
 use lib.Dec.{leb}
 use borrow.Author.Tests.{leb-true, leb-false}
 use Rattle.search.specs.Smallest.{Answers}
-use Rattle.search.specs.declared.Found.{Found}
-use Rattle.search.specs.declared.Found.TheVariants.{At, Nothing}
 use Rattle.search.proofs.Smallest.{smallest_is}
 use Rattle.asked.specs.Met.{met_by, UnmetBelow}
 
@@ -17,14 +16,14 @@ module _ (work : ℕ → ℕ) (base limit : ℕ) where
     pub met : base + work w ≤ w + 1
     pub unmet : UnmetBelow work base w
 
-  abbrev pub Says : Found → Type 0
-  Says (At w) = MetAt w
-  Says Nothing = UnmetBelow work base (limit + 1)
+  abbrev pub Says : Option ℕ → Type 0
+  Says (Some w) = MetAt w
+  Says None = UnmetBelow work base (limit + 1)
 
-  told : (f : Found) → Answers (λ w. leb (base + work w) (w + 1)) 0 limit f → Says f
-  told (At w) a = record { upto = a.upto; met = leb-true _ _ a.holds; unmet = λ s l. leb-false _ _ (a.below s (omega arith) l) }
-  told Nothing a = λ s l. leb-false _ _ (a s (omega arith) (omega arith))
+  told : (f : Option ℕ) → Answers (λ w. leb (base + work w) (w + 1)) 0 limit f → Says f
+  told (Some w) a = record { upto = a.upto; met = leb-true _ _ a.holds; unmet = λ s l. leb-false _ _ (a.below s (omega arith) l) }
+  told None a = λ s l. leb-false _ _ (a s (omega arith) (omega arith))
 
-  pub met_says : (f : Found) → met_by work base limit ≡ f → Says f
+  pub met_says : (f : Option ℕ) → met_by work base limit ≡ f → Says f
   unfolding met_by
-  met_says f e = told f (subst (λ (x : Found). Answers (λ w. leb (base + work w) (w + 1)) 0 limit x) e (smallest_is _ 0 limit (omega arith)))
+  met_says f e = told f (subst (λ (x : Option ℕ). Answers (λ w. leb (base + work w) (w + 1)) 0 limit x) e (smallest_is _ 0 limit (omega arith)))

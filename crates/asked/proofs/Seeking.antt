@@ -1,4 +1,5 @@
 -- The search on its way: what is known at its tick, and what its answers say.
+use Rattle.std.specs.Prelude.{Some, None, Option}
 use mathlib.Core.Path.{◌≡◌, refl, sym, ap, ◌∙◌, subst}
 use mathlib.Core.Bool.{Bool, true, false}
 use mathlib.Core.List.{List}
@@ -14,8 +15,6 @@ use Rattle.laws.specs.Joined.{overlaid}
 use Rattle.laws.proofs.Sums.{least_above}
 use Rattle.laws.proofs.Overlaid.{overlaid_in, length-overlaid}
 use Rattle.model.specs.Limits.{most_tasks}
-use Rattle.search.specs.declared.Found.{Found}
-use Rattle.search.specs.declared.Found.TheVariants.{At, Nothing}
 use Rattle.search.proofs.Smallest.{smallest_at, smallest_none}
 use Rattle.asked.specs.declared.Searched.{Searched}
 use Rattle.asked.specs.Rows.{RowsFit, asked_by}
@@ -45,25 +44,25 @@ seeking rows count base due was all next w few size unmet asked next_is over =
     }
 
 module _ (work : ℕ → ℕ) (base limit : ℕ) where
-  pub met_here : (t : ℕ) → t ≤ limit → UnmetBelow work base t → base + work t ≤ t + 1 → met_by work base limit ≡ At t
+  pub met_here : (t : ℕ) → t ≤ limit → UnmetBelow work base t → base + work t ≤ t + 1 → met_by work base limit ≡ Some t
   unfolding met_by
   met_here t le unmet met = smallest_at _ 0 limit t (omega arith) le (le-leb _ _ met) (λ s a b. lt-leb _ _ (unmet s b))
 
-  pub met_nowhere : (t : ℕ) → limit < t → UnmetBelow work base t → met_by work base limit ≡ Nothing
+  pub met_nowhere : (t : ℕ) → limit < t → UnmetBelow work base t → met_by work base limit ≡ None
   unfolding met_by
   met_nowhere t gt unmet = smallest_none _ 0 limit (λ s a b. lt-leb _ _ (unmet s (omega arith)))
 
   -- it is met at a tick, unless that lies past the limit
-  found_by : (t : ℕ) → UnmetBelow work base t → (t ≤ limit → base + work t ≤ t + 1) → pick (leb t limit) (At t) Nothing ≡ met_by work base limit
+  found_by : (t : ℕ) → UnmetBelow work base t → (t ≤ limit → base + work t ≤ t + 1) → pick (leb t limit) (Some t) None ≡ met_by work base limit
   found_by t unmet met = elim (dec_le t limit) [
     | yes le ↦ rw (le-leb t limit le) (sym (met_here t le unmet (met le)))
     | no gt ↦ rw (lt-leb t limit (omega arith)) (sym (met_nowhere t (omega arith) unmet))
   ]
 
-  still : (t next : ℕ) → ((s : ℕ) → t ≤ s → s < next → work s ≡ work t) → StillFrom work (pick (leb t limit) (At t) Nothing) next
+  still : (t next : ℕ) → ((s : ℕ) → t ≤ s → s < next → work s ≡ work t) → StillFrom work (pick (leb t limit) (Some t) None) next
   still t next same = go (leb t limit)
     where
-      go : (b : Bool) → StillFrom work (pick b (At t) Nothing) next
+      go : (b : Bool) → StillFrom work (pick b (Some t) None) next
       go true = same
       go false = tt
 
@@ -71,10 +70,10 @@ module _ (work : ℕ → ℕ) (base limit : ℕ) where
   abbrev pub Promised : Searched → Type 0
   Promised r = (r.found ≡ met_by work base limit) × StillFrom work r.found r.next
 
-  pub past : (t next : ℕ) → limit < t → UnmetBelow work base t → (r : Searched) → r ≡ record { found = pick (leb t limit) (At t) Nothing; next = next } → Promised r
+  pub past : (t next : ℕ) → limit < t → UnmetBelow work base t → (r : Searched) → r ≡ record { found = pick (leb t limit) (Some t) None; next = next } → Promised r
   past t next gt unmet r e =
-      let none : pick (leb t limit) (At t) Nothing ≡ Nothing = rw (lt-leb t limit gt) refl in
-      subst Promised (sym e) (found_by t unmet (λ le. absurd (omega arith)), subst (λ (f : Found). StillFrom work f next) (sym none) tt)
+      let none : pick (leb t limit) (Some t) None ≡ None = rw (lt-leb t limit gt) refl in
+      subst Promised (sym e) (found_by t unmet (λ le. absurd (omega arith)), subst (λ (f : Option ℕ). StillFrom work f next) (sym none) tt)
 
 module _ (rows : List ℕ) (count base : ℕ) (fit : RowsFit rows count) (due : List ℕ) (all next w : ℕ) (at : Seeking rows count base due all next w) where
   -- the tick at which what is asked now would be met
@@ -89,7 +88,7 @@ module _ (rows : List ℕ) (count base : ℕ) (fit : RowsFit rows count) (due : 
   ]
 
   -- and it is met there, where no release comes before
-  pub here : (limit : ℕ) → on < next → (r : Searched) → r ≡ record { found = pick (leb on limit) (At on) Nothing; next = next } → Promised (asked_by rows count) base limit r
+  pub here : (limit : ℕ) → on < next → (r : Searched) → r ≡ record { found = pick (leb on limit) (Some on) None; next = next } → Promised (asked_by rows count) base limit r
   here limit l r e =
       let same : (s : ℕ) → w ≤ s → s < next → asked_by rows count s ≡ asked_by rows count w = λ s a b. asked_still rows count fit w s a (omega (arith, at.next_is)) in
       let met : base + asked_by rows count on ≤ on + 1 = omega (arith, same on (omega arith) l, at.asked) in

@@ -6,13 +6,11 @@ mod steps;
 
 ghost use Rattle.std.specs.Prelude.{◌≡◌, ◌≤◌, max, leb};
 ghost use Rattle.laws.specs.Choice.{pick};
-ghost use Rattle.search.specs.declared.Found.TheVariants.{At, Nothing};
 ghost use Rattle.asked.specs.Rows.{RowsFit, asked_by};
 ghost use Rattle.asked.specs.Met.{met_by, UnmetBelow, StillFrom};
 
 pub use lines::line_below;
 use model::Order;
-use search::Found;
 
 // Rows of members: their periods, then their costs, their shares and their deadlines, each at the member's rank.
 pub const PERIOD: usize = 0;
@@ -31,7 +29,7 @@ pub const WHOLE: u64 = 3_491_888_400;
 // What was found, and a tick before which nothing more is released.
 #[derive(Clone, Copy)]
 pub struct Searched {
-    pub found: Found,
+    pub found: Option<u64>,
     pub next: u32,
 }
 
@@ -96,16 +94,16 @@ fn go_ahead(rows: &[u32; ROWS], count: usize, base: u64, w: u32, on: u64, pace: 
 
 // At a tick, unless it lies past the limit.
 fn unless_past(w: u64, limit: u32, next: u32) -> Searched
-    ensures { result ≡ record { found = pick (leb w limit) (At w) Nothing; next = next } }
+    ensures { result ≡ record { found = pick (leb w limit) (Some w) None; next = next } }
 {
     if model::wide(limit) < w {
         return Searched {
-            found: Found::Nothing,
+            found: None,
             next,
         };
     }
     Searched {
-        found: Found::At(w),
+        found: Some(w),
         next,
     }
 }

@@ -1,11 +1,10 @@
 -- What the response test's verdict on a task means for the step machine: a task that passes meets its response and its deadline.
-use Rattle.std.specs.Prelude.{ℕ, ◌+◌, ◌≤◌, ◌<◌, ◌≡◌, true, List, length}
+use Rattle.std.specs.Prelude.{ℕ, ◌+◌, ◌≤◌, ◌<◌, ◌≡◌, true, List, length, Ok}
 use Rattle.model.specs.declared.order.Order.{Order}
 use Rattle.model.specs.declared.build.Build.{Build}
 use Rattle.model.specs.declared.build.Release.{Release}
 use Rattle.model.specs.Limits.{home_of}
 use Rattle.model.specs.Rules.{WithinLimits}
-use Rattle.demand.specs.declared.Verdict.TheVariants.{Passes}
 use Rattle.demand.specs.Priority.{Members, members_of, deadline_of}
 use Rattle.demand.specs.Test.{verdict}
 use Rattle.machine.specs.Step.{Pattern, Ends}
@@ -22,12 +21,12 @@ pub record FinishesInTime (o : Order) (member : Members) (releases : Pattern) (t
 -- For an order within the limits, any members and any legal pattern: every released job of a member that passes does so.
 abbrev pub PassingIsInTime : Type 0
 PassingIsInTime = (o : Order) (member : Members) (task response : ℕ) → WithinLimits o → task < o.tasks → member task ≡ true
-    → verdict o member task ≡ Passes response → (releases : Pattern) → LegalPattern o releases
+    → verdict o member task ≡ Ok response → (releases : Pattern) → LegalPattern o releases
     → (release : ℕ) → 0 < releases release task → FinishesInTime o member releases task release response
 
 -- and every record of a legal script whose task passes in the partition that a build records for it
 abbrev pub RecordsAreInTime : Type 0
 RecordsAreInTime = (o : Order) (b : Build) (script : List Release) → WithinLimits o → LegalScript o script
     → (i response : ℕ) → i < length script
-    → verdict o (members_of b (home_of b (record_of script i).task)) (record_of script i).task ≡ Passes response
+    → verdict o (members_of b (home_of b (record_of script i).task)) (record_of script i).task ≡ Ok response
     → FinishesInTime o (members_of b (home_of b (record_of script i).task)) (pattern_of script) (record_of script i).task (record_of script i).tick response

@@ -1,11 +1,11 @@
 -- Every finish tick that an accepted run writes is in time: the job that the machine finishes then is one of condition 3's.
+use Rattle.std.specs.Prelude.{Ok}
 use Prim.Native.Nat.{ℕ, ◌<◌}
 use mathlib.Core.Path.{◌≡◌, sym, subst}
 use mathlib.Core.List.{List}
 use native.Mathlib.Omega.{arith}
 use lib.ListN.{length, get_or}
-use Rattle.model.specs.declared.answer.Answer.{Answer}
-use Rattle.model.specs.declared.answer.Answer.TheVariants.{Done}
+use Rattle.model.specs.Kinds.{Answer}
 use Rattle.order.specs.Order.{order_at}
 use Rattle.build.specs.Build.{build_at}
 use Rattle.machine.specs.Pattern.{record_of, pattern_of}
@@ -19,7 +19,7 @@ use Rattle.run.specs.Run.{Ran}
 use Rattle.run.proofs.Claims.{done_parts, writes_finishes}
 use Rattle.condition.specs.Runs.{FinishedInTime, RunsInTime}
 
-module _ (order build script output : List ℕ) (count : ℕ) (after : List ℕ) (ran : Ran order build script output (Done count) after) where
+module _ (order build script output : List ℕ) (count : ℕ) (after : List ℕ) (ran : Ran order build script output (Ok count) after) where
   in_time_lem : (i : ℕ) → i < count → FinishedInTime order build (record_of (script_of script) i) (get_or after i 0)
   unfolding Finishes
   in_time_lem i below =

@@ -1,10 +1,9 @@
 -- Condition 3: "For any build the check accepts, whoever drew it, and any legal arrivals with jobs from one tick to their run time:
 -- no accelerator serves two jobs at once, each job runs on enough accelerators of its own partition, and finishes by its deadline
 -- and within the recorded response."
-use Rattle.std.specs.Prelude.{ℕ, ◌+◌, ◌≤◌, ◌<◌, ◌≡◌, List}
+use Rattle.std.specs.Prelude.{ℕ, ◌+◌, ◌≤◌, ◌<◌, ◌≡◌, List, Ok}
 use Rattle.model.specs.declared.order.Order.{Order}
 use Rattle.model.specs.declared.build.Build.{Build}
-use Rattle.model.specs.declared.answer.Answer.TheVariants.{Done}
 use Rattle.model.specs.Limits.{task_of, place_of, member_of, home_of}
 use Rattle.model.specs.Processors.{volume_of, processor_of, OfPartition}
 use Rattle.order.specs.Order.{order_at}
@@ -41,5 +40,5 @@ module _ (o : Order) (b : Build) (releases : Pattern) where
 
 -- every order and build that the check accepts, and every legal release pattern, endless ones too
 abbrev pub AcceptedIsKept : Type 0
-AcceptedIsKept = (order build : List ℕ) → check_answer order build ≡ Done 0
+AcceptedIsKept = (order build : List ℕ) → check_answer order build ≡ Ok 0
     → (releases : Pattern) → LegalPattern (order_at order) releases → Kept (order_at order) (build_at build) releases

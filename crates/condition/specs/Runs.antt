@@ -1,7 +1,6 @@
 -- What condition 3 says of a run: "every finish tick that an accepted run writes is within the deadline and the recorded response".
-use Rattle.std.specs.Prelude.{ℕ, ◌+◌, ◌≤◌, ◌<◌, ◌≡◌, List, get_or}
-use Rattle.model.specs.declared.answer.Answer.{Answer}
-use Rattle.model.specs.declared.answer.Answer.TheVariants.{Done}
+use Rattle.std.specs.Prelude.{ℕ, ◌+◌, ◌≤◌, ◌<◌, ◌≡◌, List, get_or, Ok}
+use Rattle.model.specs.Kinds.{Answer}
 use Rattle.model.specs.declared.build.Release.{Release}
 use Rattle.model.specs.Limits.{member_of}
 use Rattle.order.specs.Order.{order_at}
@@ -18,5 +17,5 @@ pub record FinishedInTime (order build : List ℕ) (release : Release) (finish :
 
 abbrev pub RunsInTime : Type 0
 RunsInTime = (order build script output : List ℕ) (answer : Answer) (after : List ℕ) (count : ℕ)
-    → Ran order build script output answer after → answer ≡ Done count
+    → Ran order build script output answer after → answer ≡ Ok count
     → (i : ℕ) → i < count → FinishedInTime order build (record_of (script_of script) i) (get_or after i 0)

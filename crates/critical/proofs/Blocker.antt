@@ -1,4 +1,5 @@
 -- The blocker: where B is over 0 there is one, and what is known of it; and when the pattern begins.
+use Rattle.std.specs.Prelude.{Some, None, Option}
 use Prim.Native.Nat.{ℕ, suc, ◌-◌, ◌≤◌, ◌<◌}
 use mathlib.Core.Path.{◌≡◌, refl, sym, ◌∙◌, subst}
 use mathlib.Core.Bool.{Bool, true, ◌&&◌}
@@ -11,8 +12,6 @@ use Rattle.laws.proofs.Every.{clash, and_both, both_and}
 use Rattle.laws.proofs.Only.{only_true, only_some}
 use Rattle.laws.proofs.Sums.{largest_in, largest_reaches}
 use Rattle.model.specs.declared.order.Order.{Order}
-use Rattle.search.specs.declared.Found.{Found}
-use Rattle.search.specs.declared.Found.TheVariants.{At, Nothing}
 use Rattle.search.specs.Smallest.{Answers, IsSmallest}
 use Rattle.search.proofs.Smallest.{smallest_is}
 use Rattle.demand.specs.Priority.{Members, outranks, lower}
@@ -45,14 +44,14 @@ module _ (o : Order) (member : Members) (i : ℕ) where
       let c = only_true (lower o member i r.0) (cost_of o r.0) s.0 in
       (r.0, r.1, both_and _ _ s.0 (eq-eqb (cost_of o r.0) (suc B) (omega (arith, cost_most r.0 r.1 s.0, r.2))))
 
-  found : 0 < B → (j : ℕ) × (longest_lower o member i ≡ At j) × IsSmallest is_longest 0 (o.tasks - 1) j
+  found : 0 < B → (j : ℕ) × (longest_lower o member i ≡ Some j) × IsSmallest is_longest 0 (o.tasks - 1) j
   unfolding longest_lower
   found some = go (longest_lower o member i) refl (smallest_is is_longest 0 (o.tasks - 1) (omega arith))
     where
-      go : (f : Found) → longest_lower o member i ≡ f → Answers is_longest 0 (o.tasks - 1) (longest_lower o member i)
-          → (j : ℕ) × (longest_lower o member i ≡ At j) × IsSmallest is_longest 0 (o.tasks - 1) j
-      go (At j) e a = (j, e, subst (Answers is_longest 0 (o.tasks - 1)) e a)
-      go Nothing e a =
+      go : (f : Option ℕ) → longest_lower o member i ≡ f → Answers is_longest 0 (o.tasks - 1) (longest_lower o member i)
+          → (j : ℕ) × (longest_lower o member i ≡ Some j) × IsSmallest is_longest 0 (o.tasks - 1) j
+      go (Some j) e a = (j, e, subst (Answers is_longest 0 (o.tasks - 1)) e a)
+      go None e a =
           let there = some_longest some in
           clash (sym (subst (Answers is_longest 0 (o.tasks - 1)) e a there.0 (omega arith) (omega (arith, there.1))) ∙ there.2)
 
@@ -60,7 +59,7 @@ module _ (o : Order) (member : Members) (i : ℕ) where
   unfolding blocks
   one_blocker some = go (found some)
     where
-      go : (j : ℕ) × (longest_lower o member i ≡ At j) × IsSmallest is_longest 0 (o.tasks - 1) j → (j : ℕ) × (blocks o member i j ≡ true) × OneBlocker o member i j
+      go : (j : ℕ) × (longest_lower o member i ≡ Some j) × IsSmallest is_longest 0 (o.tasks - 1) j → (j : ℕ) × (blocks o member i j ≡ true) × OneBlocker o member i j
       go (j, e, is) =
           let there = some_longest some in
           let both = and_both (lower o member i j) (eqb (cost_of o j) (suc B)) is.holds in
@@ -73,7 +72,7 @@ module _ (o : Order) (member : Members) (i : ℕ) where
               cost_is = cost_is;
               largest = λ k below is_lower. omega (arith, cost_most k below is_lower);
               lowest = λ k below is_lower. shorter k below is_lower (dec_lt (cost_of o k) (cost_of o j));
-              only_it = λ k it. eqb-true k j (subst (λ (f : Found). is_at o member i f k ≡ true) e (and_both (ltb 0 B) (is_at o member i (longest_lower o member i) k) it).1);
+              only_it = λ k it. eqb-true k j (subst (λ (f : Option ℕ). is_at o member i f k ≡ true) e (and_both (ltb 0 B) (is_at o member i (longest_lower o member i) k) it).1);
             },
           )
         where

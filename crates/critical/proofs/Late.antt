@@ -1,4 +1,5 @@
 -- A member that is late in the test has a first late job, and the script up to it misses; no job of any legal pattern takes longer.
+use Rattle.std.specs.Prelude.{Some, None, Option}
 use Prim.Native.Nat.{ℕ, ◌+◌, ◌-◌, ◌*◌, ◌≤◌, ◌<◌}
 use mathlib.Core.Path.{◌≡◌, refl, sym, ap, ◌∙◌, subst, subst₂}
 use mathlib.Core.Bool.{Bool, true}
@@ -10,8 +11,6 @@ use borrow.Author.Tests.{lt-ltb, ltb-true, ltb-false}
 use Rattle.laws.proofs.Every.{clash}
 use Rattle.model.specs.declared.order.Order.{Order}
 use Rattle.model.specs.Limits.{horizon}
-use Rattle.search.specs.declared.Found.{Found}
-use Rattle.search.specs.declared.Found.TheVariants.{At, Nothing}
 use Rattle.search.specs.Smallest.{smallest, number_found, Answers, IsSmallest}
 use Rattle.search.proofs.Smallest.{smallest_is}
 use Rattle.demand.specs.Priority.{Members, deadline_of}
@@ -101,9 +100,9 @@ module _ (o : Order) (member : Members) (i : ℕ) (of : IsMember o member i) (la
           let far : late.late.0 * 1 ≤ late.late.0 * T = mul-le-mul (omega arith) least in
           omega (arith, late.late.1, late.window.upto)
 
-      go : (f : Found) → smallest over 0 horizon ≡ f → Answers over 0 horizon (smallest over 0 horizon) → HasFirstLate o member i
-      go (At m) e a = has_first m (subst (Answers over 0 horizon) e a) (ap number_found e)
-      go Nothing e a = clash (sym (subst (Answers over 0 horizon) e a late.late.0 (omega arith) in_horizon) ∙ some_over)
+      go : (f : Option ℕ) → smallest over 0 horizon ≡ f → Answers over 0 horizon (smallest over 0 horizon) → HasFirstLate o member i
+      go (Some m) e a = has_first m (subst (Answers over 0 horizon) e a) (ap number_found e)
+      go None e a = clash (sym (subst (Answers over 0 horizon) e a late.late.0 (omega arith) in_horizon) ∙ some_over)
 
 pub too_late_has_first : TooLateHasFirst
 too_late_has_first o member i of verdict_is = first_found o member i of ((every_verdict_means o member i of.limits of.known).late.0 verdict_is)

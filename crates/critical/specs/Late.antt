@@ -1,10 +1,8 @@
 -- The script of R-3: the pattern up to the named task's "first late job".
-use Rattle.std.specs.Prelude.{ℕ, ◌+◌, ◌*◌, ◌≤◌, ◌<◌, Bool, false, List, ltb}
+use Rattle.std.specs.Prelude.{ℕ, ◌+◌, ◌*◌, ◌≤◌, ◌<◌, Bool, false, List, ltb, Some, None, Option}
 use Rattle.model.specs.declared.order.Order.{Order}
 use Rattle.model.specs.declared.build.Release.{Release}
 use Rattle.model.specs.Limits.{horizon}
-use Rattle.search.specs.declared.Found.{Found}
-use Rattle.search.specs.declared.Found.TheVariants.{At, Nothing}
 use Rattle.search.specs.Smallest.{smallest, number_found}
 use Rattle.demand.specs.Priority.{Members, deadline_of}
 use Rattle.demand.specs.Releases.{period_of, cost_of}
@@ -13,9 +11,9 @@ use Rattle.demand.specs.Meaning.{IsStart}
 use Rattle.critical.specs.Pattern.{critical_script}
 
 -- a response over D
-abbrev pub is_over : (deadline : ℕ) → Found → Bool
-is_over deadline (At response) = ltb deadline response
-is_over deadline Nothing = false
+abbrev pub is_over : (deadline : ℕ) → Option ℕ → Bool
+is_over deadline (Some response) = ltb deadline response
+is_over deadline None = false
 
 module _ (o : Order) (member : Members) (i : ℕ) where
   -- the number of "its first late job"

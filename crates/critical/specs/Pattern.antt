@@ -1,10 +1,8 @@
 -- The pattern of R-3, up to job q of task i, which starts w ticks after the begin.
-use Rattle.std.specs.Prelude.{ℕ, suc, ◌+◌, ◌-◌, ◌*◌, Bool, false, ◌&&◌, ◌||◌, List, ltb, eqb}
+use Rattle.std.specs.Prelude.{ℕ, suc, ◌+◌, ◌-◌, ◌*◌, Bool, false, ◌&&◌, ◌||◌, List, ltb, eqb, Some, None, Option}
 use Rattle.laws.specs.Choice.{pick}
 use Rattle.model.specs.declared.order.Order.{Order}
 use Rattle.model.specs.declared.build.Release.{Release}
-use Rattle.search.specs.declared.Found.{Found}
-use Rattle.search.specs.declared.Found.TheVariants.{At, Nothing}
 use Rattle.search.specs.Smallest.{smallest}
 use Rattle.demand.specs.Priority.{Members, higher, lower}
 use Rattle.demand.specs.Releases.{period_of, cost_of}
@@ -15,12 +13,12 @@ use Rattle.comings.specs.Listed.{script_before}
 
 module _ (o : Order) (member : Members) (i : ℕ) where
   -- "the lower member with the largest C, lowest number among equals": B is that C less 1
-  unfoldable pub longest_lower : Found
+  unfoldable pub longest_lower : Option ℕ
   longest_lower = smallest (λ j. lower o member i j && eqb (cost_of o j) (suc (blocking o member i))) 0 (o.tasks - 1)
 
-  abbrev pub is_at : Found → ℕ → Bool
-  is_at (At number) j = eqb j number
-  is_at Nothing j = false
+  abbrev pub is_at : Option ℕ → ℕ → Bool
+  is_at (Some number) j = eqb j number
+  is_at None j = false
 
   -- "if B is over 0" it comes
   unfoldable pub blocks : ℕ → Bool

@@ -1,4 +1,5 @@
 -- What `first_met` answers, and what its answer says.
+use Rattle.std.specs.Prelude.{Some, None, Option}
 use mathlib.Core.Path.{◌≡◌, ap, subst}
 use Prim.Native.Nat.{ℕ, ◌≤◌}
 use native.Mathlib.Omega.{arith}
@@ -8,34 +9,32 @@ use borrow.Author.Tests.{le-leb, lt-leb, leb-true, leb-false}
 use Rattle.model.specs.Limits.{horizon}
 use Rattle.search.specs.Smallest.{Answers}
 use Rattle.search.proofs.Smallest.{smallest_at, smallest_none, smallest_is, smallest_same}
-use Rattle.search.specs.declared.Found.{Found}
-use Rattle.search.specs.declared.Found.TheVariants.{At, Nothing}
 use Rattle.demand.specs.Test.{first_met}
 use Rattle.demand.specs.Meaning.{FirstMetAt, NeverMet}
 
 -- what an answer says
-abbrev pub Says : (ℕ → ℕ) → ℕ → Found → Type 0
-Says asked least (At t) = FirstMetAt asked least t
-Says asked least Nothing = NeverMet asked least
+abbrev pub Says : (ℕ → ℕ) → ℕ → Option ℕ → Type 0
+Says asked least (Some t) = FirstMetAt asked least t
+Says asked least None = NeverMet asked least
 
 module _ (asked : ℕ → ℕ) (least : ℕ) where
-  pub met_at : (t : ℕ) → FirstMetAt asked least t → first_met asked least ≡ At t
+  pub met_at : (t : ℕ) → FirstMetAt asked least t → first_met asked least ≡ Some t
   unfolding first_met
   met_at t is =
       smallest_at (λ s. leb (asked s) s) least horizon t is.from is.upto (le-leb _ _ is.met) (λ s a b. lt-leb _ _ (is.earlier s a b))
 
-  pub met_never : NeverMet asked least → first_met asked least ≡ Nothing
+  pub met_never : NeverMet asked least → first_met asked least ≡ None
   unfolding first_met
   met_never never = smallest_none (λ s. leb (asked s) s) least horizon (λ s a b. lt-leb _ _ (never s a b))
 
-  told : (f : Found) → Answers (λ t. leb (asked t) t) least horizon f → Says asked least f
-  told (At t) a =
+  told : (f : Option ℕ) → Answers (λ t. leb (asked t) t) least horizon f → Says asked least f
+  told (Some t) a =
       record { from = a.from; upto = a.upto; met = leb-true _ _ a.holds; earlier = λ s x y. leb-false _ _ (a.below s x y) }
-  told Nothing a = λ s x y. leb-false _ _ (a s x y)
+  told None a = λ s x y. leb-false _ _ (a s x y)
 
-  pub met_says : least ≤ horizon → (f : Found) → first_met asked least ≡ f → Says asked least f
+  pub met_says : least ≤ horizon → (f : Option ℕ) → first_met asked least ≡ f → Says asked least f
   unfolding first_met
-  met_says le f e = told f (subst (λ (x : Found). Answers (λ t. leb (asked t) t) least horizon x) e (smallest_is _ least horizon (omega arith)))
+  met_says le f e = told f (subst (λ (x : Option ℕ). Answers (λ t. leb (asked t) t) least horizon x) e (smallest_is _ least horizon (omega arith)))
 
   -- one answer only
   pub met_one : (s t : ℕ) → FirstMetAt asked least s → FirstMetAt asked least t → s ≡ t

@@ -1,4 +1,5 @@
 -- Windows and starts over any work of higher members that grows with w: what a window gives its jobs, and where searches may begin.
+use Rattle.std.specs.Prelude.{Some, None, Option}
 use mathlib.Core.Path.{◌≡◌, refl}
 use Prim.Native.Nat.{ℕ, zero, suc, ◌+◌, ◌-◌, ◌*◌, ◌≤◌, ◌<◌}
 use native.Mathlib.Nat.{mul-le-mul_right, add-mul, one-mul, zero-mul}
@@ -6,8 +7,6 @@ use native.Mathlib.Decide.{dec_le}
 use native.Mathlib.Omega.{arith}
 use Rattle.model.specs.declared.order.Task.{Task}
 use Rattle.model.specs.Limits.{cost}
-use Rattle.search.specs.declared.Found.{Found}
-use Rattle.search.specs.declared.Found.TheVariants.{At, Nothing}
 use Rattle.demand.specs.Test.{first_met}
 use Rattle.demand.specs.Meaning.{FirstMetAt}
 use Rattle.demand.specs.Over.{start_over, window_over, job_base}
@@ -74,10 +73,10 @@ module _ (work : ℕ → ℕ) (grows : Grows work) where
           fits : start_over work (job_base work B task q) (L - cost task) + cost task ≤ L
           fits = room L q window.from window.met inside
 
-          go : (f : Found) → first_met (start_over work (job_base work B task q)) 0 ≡ f → Job L q
-          go Nothing e = absurd (omega (arith, fits, met_says (start_over work (job_base work B task q)) 0 (omega arith) Nothing e (L - cost task) (omega arith) (omega (arith, window.upto))))
-          go (At w) e =
-              let is = met_says (start_over work (job_base work B task q)) 0 (omega arith) (At w) e in
+          go : (f : Option ℕ) → first_met (start_over work (job_base work B task q)) 0 ≡ f → Job L q
+          go None e = absurd (omega (arith, fits, met_says (start_over work (job_base work B task q)) 0 (omega arith) None e (L - cost task) (omega arith) (omega (arith, window.upto))))
+          go (Some w) e =
+              let is = met_says (start_over work (job_base work B task q)) 0 (omega arith) (Some w) e in
               record {
                 at = w;
                 is = is;

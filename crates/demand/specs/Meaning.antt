@@ -1,11 +1,11 @@
 -- What a verdict says, in the document's words: claims, proved in proofs/Meaning.antt.
-use Rattle.std.specs.Prelude.{◌≡◌, false, ◌↔◌, ℕ, ◌+◌, ◌*◌, ◌≤◌, ◌<◌}
+use Rattle.std.specs.Prelude.{◌≡◌, false, ◌↔◌, ℕ, ◌+◌, ◌*◌, ◌≤◌, ◌<◌, Ok, Err}
 use Rattle.model.specs.declared.order.Order.{Order}
 use Rattle.model.specs.Limits.{horizon}
 use Rattle.model.specs.Rules.{WithinLimits}
 use Rattle.demand.specs.Priority.{Members, deadline_of, rank}
 use Rattle.demand.specs.Releases.{period_of, cost_of}
-use Rattle.demand.specs.Test.{Passes, NoWindow, NoStart, TooLate, window_demand, start_demand, verdict}
+use Rattle.demand.specs.Test.{NoWindow, NoStart, TooLate, window_demand, start_demand, verdict}
 
 -- t is "the smallest t from least to H with asked t ≤ t"
 pub record FirstMetAt (asked : ℕ → ℕ) (least t : ℕ) : Type 0 where
@@ -56,10 +56,10 @@ module _ (o : Order) (member : Members) (i : ℕ) where
 
   -- what each verdict says
   pub record VerdictMeans : Type 0 where
-    pub passes : (worst : ℕ) → (verdict o member i ≡ Passes worst) ↔ IsPassing worst
-    pub no_window : (verdict o member i ≡ NoWindow) ↔ NeverMet (window_demand o member i) 1
-    pub no_start : (verdict o member i ≡ NoStart) ↔ IsWithoutStart
-    pub late : (verdict o member i ≡ TooLate) ↔ IsLate
+    pub passes : (worst : ℕ) → (verdict o member i ≡ Ok worst) ↔ IsPassing worst
+    pub no_window : (verdict o member i ≡ (Err NoWindow)) ↔ NeverMet (window_demand o member i) 1
+    pub no_start : (verdict o member i ≡ (Err NoStart)) ↔ IsWithoutStart
+    pub late : (verdict o member i ≡ (Err TooLate)) ↔ IsLate
 
 -- every verdict says just that
 abbrev pub EveryVerdictMeans : Type 0
@@ -67,13 +67,13 @@ EveryVerdictMeans = (o : Order) (member : Members) (i : ℕ) → WithinLimits o 
 
 -- a window that closes by H gives every needed start by H too
 abbrev pub NoStartNever : Type 0
-NoStartNever = (o : Order) (member : Members) (i : ℕ) → WithinLimits o → i < o.tasks → verdict o member i ≡ NoStart → ⊥
+NoStartNever = (o : Order) (member : Members) (i : ℕ) → WithinLimits o → i < o.tasks → verdict o member i ≡ (Err NoStart) → ⊥
 
 -- "A task alone always passes.", with its cost for a response
 abbrev pub AlonePasses : Type 0
 AlonePasses =
     (o : Order) (member : Members) (i : ℕ) → WithinLimits o → i < o.tasks →
-    ((j : ℕ) → j < o.tasks → (j ≡ i → ⊥) → member j ≡ false) → verdict o member i ≡ Passes (cost_of o i)
+    ((j : ℕ) → j < o.tasks → (j ≡ i → ⊥) → member j ≡ false) → verdict o member i ≡ Ok (cost_of o i)
 
 -- rank and verdict look at nothing but who is in the partition
 abbrev pub OnlyMembersCount : Type 0

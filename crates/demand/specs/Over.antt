@@ -1,8 +1,7 @@
 -- The test over what it needs to know of the higher members: the work that they release by w. Inner definitions; Test.antt has the document's.
-use Rattle.std.specs.Prelude.{ℕ, ◌+◌, ◌-◌, ◌*◌}
+use Rattle.std.specs.Prelude.{ℕ, ◌+◌, ◌-◌, ◌*◌, Option}
 use Rattle.model.specs.declared.order.Task.{Task}
 use Rattle.model.specs.Limits.{cost}
-use Rattle.search.specs.declared.Found.{Found}
 use Rattle.demand.specs.Releases.{work_by, jobs}
 use Rattle.demand.specs.Test.{Verdict, first_met, response_from, largest_found, verdict_by}
 
@@ -19,7 +18,7 @@ module _ (work : ℕ → ℕ) (blocking : ℕ) (task : Task) where
   abbrev pub job_base : ℕ → ℕ
   job_base q = blocking + q * cost task
 
-  unfoldable pub response_over : ℕ → Found
+  unfoldable pub response_over : ℕ → Option ℕ
   response_over q = response_from (first_met (start_over work (job_base q)) 0) (cost task) (q * task.period)
 
   unfoldable pub verdict_over : Verdict

@@ -1,4 +1,5 @@
 -- Every job of a legal script has one finish tick, and `finish_of` is it.
+use Rattle.std.specs.Prelude.{Some}
 use Prim.Native.Nat.{ℕ, ◌+◌, ◌≤◌, ◌<◌}
 use mathlib.Core.Path.{◌≡◌, refl, sym, ap, subst}
 use mathlib.Core.Bool.{true}
@@ -10,7 +11,6 @@ use lib.ListN.{length}
 use borrow.Author.Tests.{eq-eqb, eqb-true}
 use Rattle.laws.proofs.Choice.{refuted}
 use Rattle.laws.proofs.Every.{clash, and_both, both_and}
-use Rattle.search.specs.declared.Found.TheVariants.{At}
 use Rattle.search.specs.Smallest.{number_found}
 use Rattle.search.proofs.Smallest.{smallest_at}
 use Rattle.model.specs.declared.order.Order.{Order}
@@ -46,7 +46,7 @@ up_used k a (runs j b l) e =
 
 module _ (o : Order) (b : Build) where
   -- the only tick is the smallest
-  found_at : (releases : Pattern) (task release finish : ℕ) → finish ≤ most_tick → Finishes o b releases task release finish → finish_found o b releases task release ≡ At finish
+  found_at : (releases : Pattern) (task release finish : ℕ) → finish ≤ most_tick → Finishes o b releases task release finish → finish_found o b releases task release ≡ Some finish
   unfolding finish_found Finishes
   found_at releases task release finish small ends =
       smallest_at (λ tick. used_up task release (box_before o b releases tick (home_of b task)).running) 0 most_tick finish (omega arith) small

@@ -1,8 +1,7 @@
 -- "The run continues until every job has finished and writes one 32-bit finish tick per record."
-use Rattle.std.specs.Prelude.{ℕ, Bool, false, ◌&&◌, List, eqb, length}
+use Rattle.std.specs.Prelude.{ℕ, Bool, false, ◌&&◌, List, eqb, length, Option}
 use Rattle.laws.specs.Joined.{listed}
 use Rattle.search.specs.Smallest.{smallest, number_found}
-use Rattle.search.specs.declared.Found.{Found}
 use Rattle.model.specs.declared.order.Order.{Order}
 use Rattle.model.specs.declared.build.Build.{Build}
 use Rattle.model.specs.declared.build.Release.{Release}
@@ -21,7 +20,7 @@ abbrev pub most_tick : ℕ
 most_tick = 4_294_967_295
 
 -- "a job whose time is used up ends, with finish tick t": the 32-bit tick at which the job that a task released at a tick ends
-unfoldable pub finish_found : Order → Build → Pattern → (task release : ℕ) → Found
+unfoldable pub finish_found : Order → Build → Pattern → (task release : ℕ) → Option ℕ
 finish_found o b releases task release = smallest (λ tick. used_up task release (box_before o b releases tick (home_of b task)).running) 0 most_tick
 
 -- the finish tick of record i; Claims.antt says that a legal script's job always has one

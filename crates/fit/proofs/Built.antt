@@ -1,4 +1,5 @@
 -- The build that first fit records: its ranks and responses are those of the placing that it was recorded from.
+use Rattle.std.specs.Prelude.{Ok, Err}
 use mathlib.Core.Path.{◌≡◌, refl, sym, ap, ap₂, ◌∙◌, subst}
 use mathlib.Core.List.{List}
 use mathlib.Core.Logic.{◌⊎◌, inl, inr}
@@ -10,14 +11,12 @@ use Rattle.laws.proofs.Filled.{filled_in, filled_past}
 use Rattle.model.specs.declared.order.Order.{Order}
 use Rattle.model.specs.declared.build.Member.{Member}
 use Rattle.model.specs.declared.build.Build.{Build}
-use Rattle.model.specs.declared.answer.Answer.{Answer}
-use Rattle.model.specs.declared.answer.Answer.TheVariants.{Done, Refused}
+use Rattle.model.specs.Kinds.{Answer}
 use Rattle.model.specs.declared.answer.Refusal.{Refusal}
 use Rattle.model.specs.declared.answer.Refusal.TheVariants.{OfCall}
 use Rattle.model.specs.declared.answer.CallCause.TheVariants.{FirstFit}
 use Rattle.model.specs.Limits.{most_tasks, zero_member, member_of, home_of, empty_build}
 use Rattle.model.specs.Rules.{WithinLimits}
-use Rattle.demand.specs.declared.Verdict.TheVariants.{Passes}
 use Rattle.demand.specs.Priority.{members_of}
 use Rattle.demand.specs.Test.{response_of}
 use Rattle.demand.proofs.Membership.{rank_same, verdict_same}
@@ -42,31 +41,31 @@ module _ (o : Order) where
   unfolding build_of
   member_past s i l = filled_past (recorded_as o s.homes) zero_member most_tasks o.tasks i l
 
-  pub fitted_done : (s : Placing) → first_fit o ≡ going_on s → fitted_of o ≡ record { answer = Done 0; build = build_of o s }
+  pub fitted_done : (s : Placing) → first_fit o ≡ going_on s → fitted_of o ≡ record { answer = Ok 0; build = build_of o s }
   unfolding fitted_of recorded
   fitted_done s e = ap (recorded o) e
 
-  pub fitted_refused : (s : Placing) (i : ℕ) → first_fit o ≡ refusing s i → fitted_of o ≡ record { answer = Refused (OfCall (FirstFit i)); build = empty_build }
+  pub fitted_refused : (s : Placing) (i : ℕ) → first_fit o ≡ refusing s i → fitted_of o ≡ record { answer = Err (OfCall (FirstFit i)); build = empty_build }
   unfolding fitted_of recorded
   fitted_refused s i e = ap (recorded o) e
 
   -- by the answer of the turns
   module _ (r : Outcome) (is : r ≡ first_fit o) where
-    pub recorded_refused : (cause : Refusal) → r.answer ≡ Refused cause → record { answer = Refused cause; build = empty_build } ≡ fitted_of o
+    pub recorded_refused : (cause : Refusal) → r.answer ≡ Err cause → record { answer = Err cause; build = empty_build } ≡ fitted_of o
     unfolding fitted_of recorded
     recorded_refused cause e = ap (λ (a : Answer). fitted_by a (build_of o r.placing)) (sym e) ∙ ap (recorded o) is
 
-    pub recorded_done : (count : ℕ) (members : List Member) → r.answer ≡ Done count → members ≡ filled (recorded_as o r.placing.homes) zero_member most_tasks o.tasks
-        → record { answer = Done 0; build = record { processors = o.processors; tasks = o.tasks; partitions = r.placing.opened; places = r.placing.places; members = members } } ≡ fitted_of o
+    pub recorded_done : (count : ℕ) (members : List Member) → r.answer ≡ Ok count → members ≡ filled (recorded_as o r.placing.homes) zero_member most_tasks o.tasks
+        → record { answer = Ok 0; build = record { processors = o.processors; tasks = o.tasks; partitions = r.placing.opened; places = r.placing.places; members = members } } ≡ fitted_of o
     unfolding fitted_of recorded build_of
     recorded_done count members e f =
-        ap (λ (xs : List Member). record { answer = Done 0; build = record { processors = o.processors; tasks = o.tasks; partitions = r.placing.opened; places = r.placing.places; members = xs } }) f
+        ap (λ (xs : List Member). record { answer = Ok 0; build = record { processors = o.processors; tasks = o.tasks; partitions = r.placing.opened; places = r.placing.places; members = xs } }) f
         ∙ ap (λ (a : Answer). fitted_by a (build_of o r.placing)) (sym e) ∙ ap (recorded o) is
 
 done_not_refused : {A : Type 0} (a b : Build) (count : ℕ) (cause : Refusal) →
-    ◌≡◌ {A = Fitted} (record { answer = Done count; build = a }) (record { answer = Refused cause; build = b }) → A
+    ◌≡◌ {A = Fitted} (record { answer = Ok count; build = a }) (record { answer = Err cause; build = b }) → A
 done_not_refused a b count cause e =
-    let f : Done count ≡ Refused cause = ap (λ (x : Fitted). x.answer) e in
+    let f : Ok count ≡ Err cause = ap (λ (x : Fitted). x.answer) e in
     let z : ◌≡◌ {A = ℕ} 0 1 = cc f in
     absurd (omega arith)
 
@@ -83,7 +82,7 @@ module _ (o : Order) (limits : WithinLimits o) where
         responses = λ i l.
             (let passes = all.passes i l in
             let worst : (member_of b i).response ≡ passes.0 = ap (λ (x : Member). x.response) (member_in o s i l) ∙ ap response_of passes.1 in
-            verdict_same o (members_of b (home_of b i)) (living_in s.homes (home_at s.homes i)) i (same i l) ∙ passes.1 ∙ ap Passes (sym worst));
+            verdict_same o (members_of b (home_of b i)) (living_in s.homes (home_at s.homes i)) i (same i l) ∙ passes.1 ∙ ap Ok (sym worst));
         zero_past = λ i l. member_past o s i l;
       }
     where
@@ -113,8 +112,8 @@ fitted_is_refused o b cause limits e = go (one_of_two o limits)
         (b ≡ empty_build) × ((s : Placing) × ((i : ℕ) × (cause ≡ OfCall (FirstFit i)) × RefusedIn o s i))
     go (inl (s, f)) = done_not_refused (build_of o s) b 0 cause (sym (fitted_done o s f) ∙ e)
     go (inr (s, (i, f))) =
-        let same : ◌≡◌ {A = Fitted} (record { answer = Refused cause; build = b }) (record { answer = Refused (OfCall (FirstFit i)); build = empty_build }) = sym e ∙ fitted_refused o s i f in
-        let answers : Refused cause ≡ Refused (OfCall (FirstFit i)) = ap (λ (x : Fitted). x.answer) same in
+        let same : ◌≡◌ {A = Fitted} (record { answer = Err cause; build = b }) (record { answer = Err (OfCall (FirstFit i)); build = empty_build }) = sym e ∙ fitted_refused o s i f in
+        let answers : Err cause ≡ Err (OfCall (FirstFit i)) = ap (λ (x : Fitted). x.answer) same in
         (ap (λ (x : Fitted). x.build) same, (s, (i, cc answers, refuses o limits s i f)))
 
 pub refused_is_fitted : RefusedIsFitted

@@ -1,4 +1,5 @@
 -- The turns, as the code takes them: before, in and after its loop.
+use Rattle.std.specs.Prelude.{Ok, Err}
 use mathlib.Core.Path.{◌≡◌, refl, sym, ap, ap₂, ◌∙◌, subst}
 use mathlib.Core.Bool.{true, not}
 use mathlib.Core.List.{List}
@@ -9,7 +10,6 @@ use borrow.Author.Tests.{eq-eqb}
 use Rattle.laws.proofs.Every.{clash}
 use Rattle.laws.proofs.Filled.{get_or_alike}
 use Rattle.model.specs.declared.order.Order.{Order}
-use Rattle.model.specs.declared.answer.Answer.TheVariants.{Done, Refused}
 use Rattle.model.specs.declared.answer.Refusal.{Refusal}
 use Rattle.model.specs.Limits.{most_tasks}
 use Rattle.model.specs.Rules.{WithinLimits}
@@ -69,14 +69,14 @@ module _ (o : Order) (limits : WithinLimits o) where
       left : o.tasks - placed ≡ suc (o.tasks - (placed + 1))
       left = omega arith
 
-      pub one_refused : (cause : Refusal) → r.answer ≡ Refused cause → AllTaken o r keys' worsts'
+      pub one_refused : (cause : Refusal) → r.answer ≡ Err cause → AllTaken o r keys' worsts'
       one_refused cause e =
           record {
             answer = taken.answer ∙ sym (steps_end o (o.tasks - (placed + 1)) s cause (ap (λ (x : Outcome). x.answer) (sym taken.answer) ∙ e)) ∙ ap (λ (k : ℕ). turns_taken o k s) (sym left) ∙ is.others;
-            lines = λ count done. (let f : Refused cause ≡ Done count = sym e ∙ done in let z : ◌≡◌ {A = ℕ} 0 1 = cc f in absurd (omega arith));
+            lines = λ count done. (let f : Err cause ≡ Ok count = sym e ∙ done in let z : ◌≡◌ {A = ℕ} 0 1 = cc f in absurd (omega arith));
           }
 
-      pub one_more : (count : ℕ) → r.answer ≡ Done count → Between r.placing (placed + 1) keys' lasts' worsts'
+      pub one_more : (count : ℕ) → r.answer ≡ Ok count → Between r.placing (placed + 1) keys' lasts' worsts'
       one_more count e =
           let same = ap (λ (x : Outcome). x.placing) taken.answer in
           record {

@@ -1,4 +1,5 @@
 -- One turn: what comes of it, by the partition that takes the task, or that none does.
+use Rattle.std.specs.Prelude.{Ok, Err, Some, None, Option}
 use mathlib.Core.Path.{◌≡◌, refl, sym, ap, ◌∙◌, subst}
 use mathlib.Core.Bool.{true, false, not}
 use mathlib.Core.List.{List}
@@ -12,14 +13,10 @@ use Rattle.laws.specs.Joined.{overlaid}
 use Rattle.laws.proofs.Every.{clash}
 use Rattle.laws.proofs.Overlaid.{overlaid_in, length-overlaid}
 use Rattle.model.specs.declared.order.Order.{Order}
-use Rattle.model.specs.declared.answer.Answer.TheVariants.{Done, Refused}
 use Rattle.model.specs.declared.answer.Refusal.TheVariants.{OfCall}
 use Rattle.model.specs.declared.answer.CallCause.TheVariants.{FirstFit}
 use Rattle.model.specs.Limits.{most_tasks}
-use Rattle.search.specs.declared.Found.{Found}
-use Rattle.search.specs.declared.Found.TheVariants.{At, Nothing}
 use Rattle.search.proofs.First.{Firstly, first_says}
-use Rattle.demand.specs.declared.Verdict.TheVariants.{Passes}
 use Rattle.demand.specs.Priority.{deadline_of}
 use Rattle.demand.specs.Releases.{cost_of}
 use Rattle.demand.specs.Test.{verdict}
@@ -48,12 +45,12 @@ module _ (o : Order) (table : List ℕ) (s : Placing) (placed : ℕ) (keys lasts
   pub few_tasks : o.tasks ≤ 32
   few_tasks = t.limits.tasks.1
 
-  pub idle_turn : (r : Outcome) → next_task o homes o.tasks ≡ Nothing → r ≡ going_on s → (keys' lasts' worsts' : List ℕ) → Taken o s placed r keys' lasts' worsts'
+  pub idle_turn : (r : Outcome) → next_task o homes o.tasks ≡ None → r ≡ going_on s → (keys' lasts' worsts' : List ℕ) → Taken o s placed r keys' lasts' worsts'
   idle_turn r none e keys' lasts' worsts' =
       let one = one_waits homes o.tasks (omega (arith, t.lines.stands.numbered.count, t.early)) in
       clash (sym (none_next o homes o.tasks none one.0 one.1) ∙ one.2)
 
-  module _ (i : ℕ) (turn : next_task o homes o.tasks ≡ At i) where
+  module _ (i : ℕ) (turn : next_task o homes o.tasks ≡ Some i) where
     pub next : IsNext o homes o.tasks i
     next = next_is o homes o.tasks i turn
 
@@ -116,11 +113,11 @@ module _ (o : Order) (table : List ℕ) (s : Placing) (placed : ℕ) (keys lasts
       keys_then = ap (λ (xs : List ℕ). length xs) put_in ∙ length-overlaid (with_key key keys placed) keys (placed + 1) (omega (arith, t.lines.key_places, t.early, few_tasks)) ∙ t.lines.key_places
 
     -- an open partition takes it
-    pub seated : (k key : ℕ) (found : Found) (keys' lasts' worsts' : List ℕ) (r : Outcome) → Lowest table keys placed lasts worsts i trying s.opened found lasts' worsts' → found ≡ At k
+    pub seated : (k key : ℕ) (found : Option ℕ) (keys' lasts' worsts' : List ℕ) (r : Outcome) → Lowest table keys placed lasts worsts i trying s.opened found lasts' worsts' → found ≡ Some k
         → key ≡ key_of k (word_at table i 3) i → keys' ≡ overlaid (with_key key keys placed) (placed + 1) keys → r ≡ going_on (put s i k) → Taken o s placed r keys' lasts' worsts'
     unfolding lowest_accepting
     seated k key found keys' lasts' worsts' r is at key_is put_in e =
-        let lowest : lowest_accepting o s i ≡ At k = sym is.answer ∙ at in
+        let lowest : lowest_accepting o s i ≡ Some k = sym is.answer ∙ at in
         let first = subst (Firstly (accepts o homes i) s.opened) lowest (first_says (accepts o homes i) s.opened) in
         let few : k < unplaced = omega (arith, first.below, opened_few) in
         record {
@@ -157,12 +154,12 @@ module _ (o : Order) (table : List ℕ) (s : Placing) (placed : ℕ) (keys lasts
       kept : (j : ℕ) → j < o.tasks → j ≢ i → is_unplaced homes j ≡ false → (x : ℕ) → x < o.tasks → living_in homes'' (home_at homes'' j) x ≡ living_in homes (home_at homes j) x
       kept j l away p x lx = living_kept homes i k room next.waiting j (alone j l away) p x
 
-      passing_then : (j : ℕ) → j < o.tasks → is_unplaced homes'' j ≡ false → verdict o (living_in homes'' (home_at homes'' j)) j ≡ Passes (get_or worsts' j 0)
+      passing_then : (j : ℕ) → j < o.tasks → is_unplaced homes'' j ≡ false → verdict o (living_in homes'' (home_at homes'' j)) j ≡ Ok (get_or worsts' j 0)
       passing_then j l p = elim (ℕ_discrete j i) [
-        | yes e ↦ subst (λ (x : ℕ). verdict o (living_in homes'' (home_at homes'' x)) x ≡ Passes (get_or worsts' x 0)) (sym e)
-            (ap (λ (h : ℕ). verdict o (living_in homes'' h) i) (put_here homes i k room) ∙ every_alone_passes o (living_in homes'' k) i t.limits next.below alone ∙ ap Passes (sym worst_own))
+        | yes e ↦ subst (λ (x : ℕ). verdict o (living_in homes'' (home_at homes'' x)) x ≡ Ok (get_or worsts' x 0)) (sym e)
+            (ap (λ (h : ℕ). verdict o (living_in homes'' h) i) (put_here homes i k room) ∙ every_alone_passes o (living_in homes'' k) i t.limits next.below alone ∙ ap Ok (sym worst_own))
         | no away ↦ (let was = was_placed j away p in
-            verdict_same o (living_in homes'' (home_at homes'' j)) (living_in homes (home_at homes j)) j (kept j l away was) ∙ t.lines.known.passing j l was ∙ ap Passes (sym (worst_other j away)))
+            verdict_same o (living_in homes'' (home_at homes'' j)) (living_in homes (home_at homes j)) j (kept j l away was) ∙ t.lines.known.passing j l was ∙ ap Ok (sym (worst_other j away)))
       ]
 
       open_then : (j : ℕ) → j < o.tasks → is_unplaced homes'' j ≡ false → OpenUntil o (living_in homes'' (home_at homes'' j)) j (get_or lasts j 0)
@@ -184,7 +181,7 @@ module _ (o : Order) (table : List ℕ) (s : Placing) (placed : ℕ) (keys lasts
             passing = passing_then;
           }
 
-      pub alone_seated : (key : ℕ) (found : Found) (keys' : List ℕ) (r : Outcome) → found ≡ lowest_accepting o s i → found ≡ Nothing
+      pub alone_seated : (key : ℕ) (found : Option ℕ) (keys' : List ℕ) (r : Outcome) → found ≡ lowest_accepting o s i → found ≡ None
           → key ≡ key_of k (word_at table i 3) i → keys' ≡ overlaid (with_key key keys placed) (placed + 1) keys → r ≡ opening o s i → Taken o s placed r keys' lasts worsts'
       alone_seated key found keys' r lowest none key_is put_in e = elim (dec_le (width_of o i) (o.processors - s.used)) [
         | yes fits ↦ (let on : r ≡ going_on (put (open_next s (width_of o i)) i k) = e ∙ opening_new o s i fits in
@@ -202,19 +199,19 @@ module _ (o : Order) (table : List ℕ) (s : Placing) (placed : ℕ) (keys lasts
             let stop : r ≡ refusing s i = e ∙ opening_none o s i less in
             record {
               answer = stop ∙ sym (step_refuse o s i turn (sym lowest ∙ none) less);
-              lines = λ count done. (let f : Refused (OfCall (FirstFit i)) ≡ Done count = ap (λ (x : Outcome). x.answer) (sym stop) ∙ done in
+              lines = λ count done. (let f : Err (OfCall (FirstFit i)) ≡ Ok count = ap (λ (x : Outcome). x.answer) (sym stop) ∙ done in
                   let z : ◌≡◌ {A = ℕ} 0 1 = cc f in absurd (omega arith));
             })
       ]
 
     -- what was found is an opened partition
-    pub found_few : (k : ℕ) (found : Found) (lasts' worsts' : List ℕ) → Lowest table keys placed lasts worsts i trying s.opened found lasts' worsts' → found ≡ At k → k < 32
+    pub found_few : (k : ℕ) (found : Option ℕ) (lasts' worsts' : List ℕ) → Lowest table keys placed lasts worsts i trying s.opened found lasts' worsts' → found ≡ Some k → k < 32
     found_few k found lasts' worsts' is at =
         let first = subst (Firstly (accepts o homes i) s.opened) (sym is.answer ∙ at) (first_says (accepts o homes i) s.opened) in
         omega (arith, first.below, opened_few)
 
     -- none takes it, as the search leaves what is known
-    pub none_takes : (key : ℕ) (found : Found) (keys' lasts₁ worsts₁ : List ℕ) (r : Outcome) → Lowest table keys placed lasts worsts i trying s.opened found lasts₁ worsts₁ → found ≡ Nothing
+    pub none_takes : (key : ℕ) (found : Option ℕ) (keys' lasts₁ worsts₁ : List ℕ) (r : Outcome) → Lowest table keys placed lasts worsts i trying s.opened found lasts₁ worsts₁ → found ≡ None
         → key ≡ key_of s.opened (word_at table i 3) i → keys' ≡ overlaid (with_key key keys placed) (placed + 1) keys → r ≡ opening o s i
         → Taken o s placed r keys' lasts₁ (set worsts₁ i (word_at table i 1))
     unfolding lowest_accepting

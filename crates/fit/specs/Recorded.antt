@@ -1,11 +1,10 @@
 -- "The build records the final ranks and worst responses."
-use Rattle.std.specs.Prelude.{◌≡◌, List, ℕ}
+use Rattle.std.specs.Prelude.{◌≡◌, List, ℕ, Ok, Err}
 use Rattle.laws.specs.Joined.{filled}
 use Rattle.model.specs.declared.order.Order.{Order}
 use Rattle.model.specs.declared.build.Member.{Member}
 use Rattle.model.specs.declared.build.Build.{Build}
-use Rattle.model.specs.declared.answer.Answer.{Answer}
-use Rattle.model.specs.declared.answer.Answer.TheVariants.{Done, Refused}
+use Rattle.model.specs.Kinds.{Answer}
 use Rattle.model.specs.Limits.{most_tasks, zero_member, empty_build}
 use Rattle.demand.specs.Priority.{rank}
 use Rattle.demand.specs.Test.{verdict, response_of}
@@ -33,8 +32,8 @@ build_of o s =
 
 -- the build of a placing that went on to the end; an empty one where a task was refused
 abbrev pub fitted_by : Answer → Build → Fitted
-fitted_by (Done count) build = record { answer = Done 0; build = build }
-fitted_by (Refused cause) build = record { answer = Refused cause; build = empty_build }
+fitted_by (Ok count) build = record { answer = Ok 0; build = build }
+fitted_by (Err cause) build = record { answer = Err cause; build = empty_build }
 
 unfoldable pub recorded : Order → Outcome → Fitted
 recorded o outcome = fitted_by outcome.answer (build_of o outcome.placing)

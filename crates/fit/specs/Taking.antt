@@ -1,7 +1,6 @@
 -- What is known before each turn: how the placing stands, the line of the placed tasks, and what is known of them. Inner definitions.
-use Rattle.std.specs.Prelude.{◌≡◌, List, ℕ, ◌+◌, ◌<◌, length}
+use Rattle.std.specs.Prelude.{◌≡◌, List, ℕ, ◌+◌, ◌<◌, length, Ok}
 use Rattle.model.specs.declared.order.Order.{Order}
-use Rattle.model.specs.declared.answer.Answer.TheVariants.{Done}
 use Rattle.laws.specs.Joined.{filled}
 use Rattle.model.specs.declared.build.Member.{Member}
 use Rattle.model.specs.Limits.{most_tasks, zero_member}
@@ -30,12 +29,12 @@ pub record Taking (o : Order) (table : List ℕ) (s : Placing) (placed : ℕ) (k
 -- what comes of it
 pub record Taken (o : Order) (s : Placing) (placed : ℕ) (r : Outcome) (keys lasts worsts : List ℕ) : Type 0 where
   pub answer : r ≡ turn_taken o s
-  pub lines : (count : ℕ) → r.answer ≡ Done count → Lines o r.placing (placed + 1) keys lasts worsts
+  pub lines : (count : ℕ) → r.answer ≡ Ok count → Lines o r.placing (placed + 1) keys lasts worsts
 
 -- what comes of all turns
 pub record AllTaken (o : Order) (r : Outcome) (keys worsts : List ℕ) : Type 0 where
   pub answer : r ≡ first_fit o
-  pub lines : (count : ℕ) → r.answer ≡ Done count → (lasts : List ℕ) × Lines o r.placing o.tasks keys lasts worsts
+  pub lines : (count : ℕ) → r.answer ≡ Ok count → (lasts : List ℕ) × Lines o r.placing o.tasks keys lasts worsts
 
 -- all tasks stand in line, with their worst responses
 pub record Recording (keys worsts : List ℕ) (tasks : ℕ) : Type 0 where

@@ -10,12 +10,12 @@ ghost use Rattle.fit.specs.Taking.{Recording, RecordsOf};
 
 use crate::taking;
 use fitting::Placing;
-use model::{Answer, Build, Member, Order};
+use model::{Build, Member, Order, Refusal};
 
 // The build, empty where a task was refused.
 #[derive(Clone, Copy)]
 pub struct Fitted {
-    pub answer: Answer,
+    pub answer: Result<u32, Refusal>,
     pub build: Build,
 }
 
@@ -67,9 +67,9 @@ pub fn first_fit(order: Order) -> Fitted
     let mut worsts = [0u32; Order::MOST_TASKS];
     let outcome = taking::take_turns(order, &mut keys, &mut worsts);
     let answer = outcome.answer;
-    if let Answer::Refused(cause) = answer {
+    if let Err(cause) = answer {
         return Fitted {
-            answer: Answer::Refused(cause),
+            answer: Err(cause),
             build: Build::empty(),
         };
     }
@@ -77,7 +77,7 @@ pub fn first_fit(order: Order) -> Fitted
     let placing = outcome.placing;
     let places = placing.places;
     Fitted {
-        answer: Answer::Done(0),
+        answer: Ok(0),
         build: Build {
             processors: order.processors,
             tasks: order.tasks,

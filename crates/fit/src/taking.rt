@@ -7,8 +7,7 @@ ghost use Rattle.fit.specs.Taking.{Taking, Taken, AllTaken};
 
 use asked::{COST, DEADLINE, ROWS};
 use fitting::{Outcome, Placing};
-use model::{Answer, CallCause, Order, Refusal};
-use search::Found;
+use model::{CallCause, Order, Refusal};
 
 // A new partition for the task if so many processors are left, else its refusal.
 fn open_for(order: Order, placing: Placing, task: usize) -> Outcome
@@ -22,7 +21,7 @@ fn open_for(order: Order, placing: Placing, task: usize) -> Outcome
         return fitting::going_on(opened.put(task, placing.opened));
     }
     Outcome {
-        answer: Answer::Refused(Refusal::OfCall(CallCause::FirstFit(task as u16))),
+        answer: Err(Refusal::OfCall(CallCause::FirstFit(task as u16))),
         placing,
     }
 }
@@ -42,13 +41,13 @@ fn take_turn(
 {
     let homes = placing.homes;
     let next = turns::next_task(order, &homes);
-    let Found::At(number) = next else {
+    let Some(number) = next else {
         return fitting::going_on(placing);
     };
     let task = number as usize;
     let deadline = table[DEADLINE + task];
     let found = placing::lowest_accepting(table, keys, placed, task, placing.opened, lasts, worsts);
-    if let Found::At(home) = found {
+    if let Some(home) = found {
         roster::put_in(keys, placed, roster::key_of(home as u32, deadline, task));
         return fitting::going_on(placing.put(task, home as u32));
     }
@@ -73,7 +72,7 @@ pub fn take_turns(
     while placed < order.tasks as usize {
         let outcome = take_turn(order, &table, placing, placed, keys, &mut lasts, worsts);
         let answer = outcome.answer;
-        if let Answer::Refused(_) = answer {
+        if let Err(_) = answer {
             return outcome;
         }
         placing = outcome.placing;

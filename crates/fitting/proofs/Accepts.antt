@@ -1,4 +1,5 @@
 -- What it says that a partition takes a task, and that none does.
+use Rattle.std.specs.Prelude.{Option, Some, None, Ok, Err}
 use mathlib.Core.Path.{◌≡◌, refl, sym, ap, ◌∙◌, subst}
 use mathlib.Core.Bool.{Bool, true, false}
 use mathlib.Core.List.{List}
@@ -8,15 +9,15 @@ use Rattle.laws.proofs.Every.{clash, every_at, every_all, every_stop}
 use Rattle.search.proofs.First.{Firstly, first_says}
 use Rattle.demand.specs.Test.{verdict, does_pass}
 use Rattle.turns.specs.Turns.{FoundBelow}
-use Rattle.fitting.specs.Kinds.{Order, Found, At, Nothing, Verdict, Passes, NoWindow, NoStart, TooLate, Placing}
+use Rattle.fitting.specs.Kinds.{Order, Verdict, NoWindow, NoStart, TooLate, Placing}
 use Rattle.fitting.specs.Steps.{living_in, member_passes, members_pass, accepts, lowest_accepting}
 use Rattle.fitting.specs.Claims.{AcceptsMeans}
 
-pub pass_says : (v : Verdict) → does_pass v ≡ true → (worst : ℕ) × (v ≡ Passes worst)
-pass_says (Passes worst) e = (worst, refl)
-pass_says NoWindow e = clash e
-pass_says NoStart e = clash e
-pass_says TooLate e = clash e
+pub pass_says : (v : Verdict) → does_pass v ≡ true → (worst : ℕ) × (v ≡ Ok worst)
+pass_says (Ok worst) e = (worst, refl)
+pass_says (Err NoWindow) e = clash e
+pass_says (Err NoStart) e = clash e
+pass_says (Err TooLate) e = clash e
 
 module _ (o : Order) (homes : List ℕ) (k : ℕ) where
   pub member_of_lem : (j : ℕ) → living_in homes k j ≡ true → member_passes o homes k j ≡ does_pass (verdict o (living_in homes k) j)
@@ -58,6 +59,6 @@ module _ (o : Order) (s : Placing) (i : ℕ) where
   lowest_says = first_says (accepts o s.homes i) s.opened
 
   -- what is found is an opened one
-  pub lowest_below : (f : Found) → f ≡ lowest_accepting o s i → FoundBelow f s.opened
-  lowest_below (At k) e = (subst (Firstly (accepts o s.homes i) s.opened) (sym e) lowest_says).below
-  lowest_below Nothing e = tt
+  pub lowest_below : (f : Option ℕ) → f ≡ lowest_accepting o s i → FoundBelow f s.opened
+  lowest_below (Some k) e = (subst (Firstly (accepts o s.homes i) s.opened) (sym e) lowest_says).below
+  lowest_below None e = tt

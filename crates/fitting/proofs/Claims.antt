@@ -1,4 +1,5 @@
 -- What first fit's placing, refusal and build say: the claims of specs/Claims.antt about a whole order.
+use Rattle.std.specs.Prelude.{Ok, Err}
 use mathlib.Core.Path.{◌≡◌, sym, ap, ◌∙◌, subst}
 use mathlib.Core.Bool.{false}
 use mathlib.Core.List.{List}
@@ -12,7 +13,7 @@ use Rattle.demand.specs.Priority.{rank}
 use Rattle.demand.specs.Test.{verdict}
 use Rattle.demand.proofs.Membership.{rank_same, verdict_same}
 use Rattle.turns.specs.Turns.{home_at, is_unplaced}
-use Rattle.fitting.specs.Kinds.{Order, Partition, Done, Refused, OfCall, FirstFit, Placing, Outcome}
+use Rattle.fitting.specs.Kinds.{Order, Partition, OfCall, FirstFit, Placing, Outcome}
 use Rattle.fitting.specs.Steps.{nothing_placed, going_on, refusing, living_in, turns_taken, first_fit}
 use Rattle.fitting.specs.Claims.{volume_at, Placed, FirstFitPlaces, RefusedIn, FirstFitRefuses, FirstFitEnds}
 use Rattle.fitting.specs.Standing.{Stands}
@@ -82,7 +83,7 @@ module _ (o : Order) (limits : WithinLimits o) where
   end = ends o limits o.tasks 0 nothing_placed (omega arith) start (steps_none o nothing_placed)
 
   fits_not_refused : {A : Type 0} (s t : Placing) (i : ℕ) → going_on s ≡ refusing t i → A
-  fits_not_refused s t i e = let f : Done 0 ≡ Refused (OfCall (FirstFit i)) = ap (λ (outcome : Outcome). outcome.answer) e in let z : ◌≡◌ {A = ℕ} 0 1 = cc f in absurd (omega arith)
+  fits_not_refused s t i e = let f : Ok 0 ≡ Err (OfCall (FirstFit i)) = ap (λ (outcome : Outcome). outcome.answer) e in let z : ◌≡◌ {A = ℕ} 0 1 = cc f in absurd (omega arith)
 
   pub places : (s : Placing) → first_fit o ≡ going_on s → Stands o o.tasks s
   unfolding first_fit

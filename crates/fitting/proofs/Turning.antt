@@ -1,4 +1,5 @@
 -- Laws of the turns: each goes on with one task more placed, or refuses the task whose turn it is; n turns place all.
+use Rattle.std.specs.Prelude.{Ok, Err, Option, Some, None}
 use mathlib.Core.Path.{◌≡◌, refl, sym, ap, ◌∙◌, subst}
 use mathlib.Core.Bool.{false}
 use Prim.Native.Nat.{ℕ, zero, suc, ◌+◌, ◌-◌, ◌≤◌, ◌<◌}
@@ -12,7 +13,7 @@ use Rattle.model.specs.Rules.{WithinLimits}
 use Rattle.turns.specs.Turns.{width_of, next_task}
 use Rattle.turns.specs.Claims.{IsNext}
 use Rattle.turns.proofs.Turns.{next_is, is_next, none_next}
-use Rattle.fitting.specs.Kinds.{Order, Answer, Done, Refused, Refusal, OfCall, FirstFit, Found, At, Nothing, Placing, Outcome}
+use Rattle.fitting.specs.Kinds.{Order, Answer, Refusal, OfCall, FirstFit, Placing, Outcome}
 use Rattle.fitting.specs.Steps.{nothing_placed, put, open_next, going_on, refusing, accepts, lowest_accepting, opening, settled, after_turn, turn_taken, unless_refused, turns_taken, first_fit}
 use Rattle.fitting.specs.Claims.{RefusedIn}
 use Rattle.fitting.specs.Standing.{Stands}
@@ -20,13 +21,13 @@ use Rattle.fitting.proofs.Put.{one_waits}
 use Rattle.fitting.proofs.Accepts.{lowest_says}
 use Rattle.fitting.proofs.Standing.{stands_accepted, stands_opened}
 
-pub on_done : (outcome : Outcome) (next : Placing → Outcome) (count : ℕ) → outcome.answer ≡ Done count → unless_refused outcome next ≡ next outcome.placing
+pub on_done : (outcome : Outcome) (next : Placing → Outcome) (count : ℕ) → outcome.answer ≡ Ok count → unless_refused outcome next ≡ next outcome.placing
 unfolding unless_refused
 on_done outcome next count e = rw (e, unless_refused)
 
-pub on_refused : (outcome : Outcome) (next : Placing → Outcome) (cause : Refusal) → outcome.answer ≡ Refused cause → unless_refused outcome next ≡ outcome
+pub on_refused : (outcome : Outcome) (next : Placing → Outcome) (cause : Refusal) → outcome.answer ≡ Err cause → unless_refused outcome next ≡ outcome
 unfolding unless_refused
-on_refused outcome next cause e = ap (λ (a : Answer). elim a [ Done count ↦ next outcome.placing | Refused other ↦ outcome ]) e
+on_refused outcome next cause e = ap (λ (a : Answer). elim a [ Ok count ↦ next outcome.placing | Err other ↦ outcome ]) e
 
 module _ (o : Order) where
   pub steps_none : (s : Placing) → turns_taken o 0 s ≡ going_on s
@@ -42,15 +43,15 @@ module _ (o : Order) where
   steps_stop k i s t e = ap (λ (outcome : Outcome). unless_refused outcome (turns_taken o k)) e
 
   -- a refusal ends the steps; else the rest follows
-  pub steps_end : (k : ℕ) (s : Placing) (cause : Refusal) → (turn_taken o s).answer ≡ Refused cause → turns_taken o (suc k) s ≡ turn_taken o s
+  pub steps_end : (k : ℕ) (s : Placing) (cause : Refusal) → (turn_taken o s).answer ≡ Err cause → turns_taken o (suc k) s ≡ turn_taken o s
   unfolding turns_taken
   steps_end k s cause e = on_refused (turn_taken o s) (turns_taken o k) cause e
 
-  pub steps_next : (k : ℕ) (s : Placing) (count : ℕ) → (turn_taken o s).answer ≡ Done count → turns_taken o (suc k) s ≡ turns_taken o k (turn_taken o s).placing
+  pub steps_next : (k : ℕ) (s : Placing) (count : ℕ) → (turn_taken o s).answer ≡ Ok count → turns_taken o (suc k) s ≡ turns_taken o k (turn_taken o s).placing
   unfolding turns_taken
   steps_next k s count e = on_done (turn_taken o s) (turns_taken o k) count e
 
-  pub step-idle : (s : Placing) → next_task o s.homes o.tasks ≡ Nothing → turn_taken o s ≡ going_on s
+  pub step-idle : (s : Placing) → next_task o s.homes o.tasks ≡ None → turn_taken o s ≡ going_on s
   unfolding turn_taken
   step-idle s e = ap (after_turn o s) e
 
@@ -62,24 +63,24 @@ module _ (o : Order) where
   unfolding opening
   opening_none s i l = rw (lt-leb (width_of o i) (o.processors - s.used) l)
 
-  module _ (s : Placing) (i : ℕ) (turn : next_task o s.homes o.tasks ≡ At i) where
+  module _ (s : Placing) (i : ℕ) (turn : next_task o s.homes o.tasks ≡ Some i) where
     -- a step is the turn of the next task, settled
     pub step_next : turn_taken o s ≡ settled o s i (lowest_accepting o s i)
     unfolding turn_taken
     step_next = ap (after_turn o s) turn
 
-    pub step-put : (k : ℕ) → lowest_accepting o s i ≡ At k → turn_taken o s ≡ going_on (put s i k)
+    pub step-put : (k : ℕ) → lowest_accepting o s i ≡ Some k → turn_taken o s ≡ going_on (put s i k)
     step-put k e = step_next ∙ rw e
 
-    pub step_open : lowest_accepting o s i ≡ Nothing → width_of o i ≤ o.processors - s.used → turn_taken o s ≡ going_on (put (open_next s (width_of o i)) i s.opened)
+    pub step_open : lowest_accepting o s i ≡ None → width_of o i ≤ o.processors - s.used → turn_taken o s ≡ going_on (put (open_next s (width_of o i)) i s.opened)
     step_open e l = step_next ∙ (ap (settled o s i) e ∙ opening_new s i l)
 
-    pub step_refuse : lowest_accepting o s i ≡ Nothing → o.processors - s.used < width_of o i → turn_taken o s ≡ refusing s i
+    pub step_refuse : lowest_accepting o s i ≡ None → o.processors - s.used < width_of o i → turn_taken o s ≡ refusing s i
     step_refuse e l = step_next ∙ (ap (settled o s i) e ∙ opening_none s i l)
 
-  refused_never : (outcome : Outcome) (t : Placing) (cause : Refusal) → outcome.answer ≡ Refused cause → outcome ≡ going_on t → ⊥
+  refused_never : (outcome : Outcome) (t : Placing) (cause : Refusal) → outcome.answer ≡ Err cause → outcome ≡ going_on t → ⊥
   refused_never outcome t cause p e =
-      let f : Refused cause ≡ Done 0 = sym p ∙ ap (λ (x : Outcome). x.answer) e in
+      let f : Err cause ≡ Ok 0 = sym p ∙ ap (λ (x : Outcome). x.answer) e in
       let z : ◌≡◌ {A = ℕ} 0 1 = cc f in
       omega arith
 
@@ -92,10 +93,10 @@ module _ (o : Order) where
     where
       go : ((x : Placing) → turns_taken o k x ≡ going_on s → turns_taken o (suc k) x ≡ going_on t) → (a : Answer) → (turn_taken o r).answer ≡ a →
           unless_refused (turn_taken o r) (turns_taken o k) ≡ going_on s → unless_refused (turn_taken o r) (turns_taken o (suc k)) ≡ going_on t
-      go ih (Done count) p q =
+      go ih (Ok count) p q =
           on_done (turn_taken o r) (turns_taken o (suc k)) count p
           ∙ ih (turn_taken o r).placing (sym (on_done (turn_taken o r) (turns_taken o k) count p) ∙ q)
-      go ih (Refused cause) p q =
+      go ih (Err cause) p q =
           absurd (refused_never (turn_taken o r) s cause p (sym (on_refused (turn_taken o r) (turns_taken o k) cause p) ∙ q))
 
   -- a refusal after so many turns is that of all turns
@@ -111,10 +112,10 @@ module _ (o : Order) where
     where
       go : ((x : Placing) → turns_taken o k x ≡ going_on s → turns_taken o (k + suc rest) x ≡ refusing s i) → (a : Answer) → (turn_taken o r).answer ≡ a →
           unless_refused (turn_taken o r) (turns_taken o k) ≡ going_on s → unless_refused (turn_taken o r) (turns_taken o (k + suc rest)) ≡ refusing s i
-      go ih (Done count) p q =
+      go ih (Ok count) p q =
           on_done (turn_taken o r) (turns_taken o (k + suc rest)) count p
           ∙ ih (turn_taken o r).placing (sym (on_done (turn_taken o r) (turns_taken o k) count p) ∙ q)
-      go ih (Refused cause) p q =
+      go ih (Err cause) p q =
           absurd (refused_never (turn_taken o r) s cause p (sym (on_refused (turn_taken o r) (turns_taken o k) cause p) ∙ q))
 
 module _ (o : Order) (limits : WithinLimits o) where
@@ -141,10 +142,10 @@ module _ (o : Order) (limits : WithinLimits o) where
   pub step_cases : (placed : ℕ) (s : Placing) → Stands o placed s → placed < o.tasks → StepCases placed s
   step_cases placed s was early = by_turn (next_task o s.homes o.tasks) refl
     where
-      by_place : (i : ℕ) → next_task o s.homes o.tasks ≡ At i → (f : Found) → lowest_accepting o s i ≡ f → Firstly (accepts o s.homes i) s.opened f → StepCases placed s
-      by_place i turn (At k) e is =
+      by_place : (i : ℕ) → next_task o s.homes o.tasks ≡ Some i → (f : Option ℕ) → lowest_accepting o s i ≡ f → Firstly (accepts o s.homes i) s.opened f → StepCases placed s
+      by_place i turn (Some k) e is =
           went_on (put s i k) (stands_accepted o limits widths placed s was early i (next_is o s.homes o.tasks i turn) k is.below is.holds) (step-put o s i turn k e)
-      by_place i turn Nothing e none =
+      by_place i turn None e none =
           let next = next_is o s.homes o.tasks i turn in
           elim (dec_le (width_of o i) (o.processors - s.used)) [
             | yes fits ↦
@@ -154,19 +155,19 @@ module _ (o : Order) (limits : WithinLimits o) where
             | no short ↦ refused i next none (omega arith) (step_refuse o s i turn e (omega arith))
           ]
 
-      by_turn : (f : Found) → next_task o s.homes o.tasks ≡ f → StepCases placed s
-      by_turn (At i) turn = by_place i turn (lowest_accepting o s i) refl (lowest_says o s i)
-      by_turn Nothing turn =
+      by_turn : (f : Option ℕ) → next_task o s.homes o.tasks ≡ f → StepCases placed s
+      by_turn (Some i) turn = by_place i turn (lowest_accepting o s i) refl (lowest_says o s i)
+      by_turn None turn =
           let one = one_waits s.homes o.tasks (omega (arith, was.numbered.count)) in
           clash (sym (none_next o s.homes o.tasks turn one.0 one.1) ∙ one.2)
 
-  pub stands_next : (placed : ℕ) (s : Placing) (count : ℕ) → Stands o placed s → placed < o.tasks → (turn_taken o s).answer ≡ Done count → Stands o (placed + 1) (turn_taken o s).placing
+  pub stands_next : (placed : ℕ) (s : Placing) (count : ℕ) → Stands o placed s → placed < o.tasks → (turn_taken o s).answer ≡ Ok count → Stands o (placed + 1) (turn_taken o s).placing
   stands_next placed s count was early done = go (step_cases placed s was early)
     where
       go : StepCases placed s → Stands o (placed + 1) (turn_taken o s).placing
       go (went_on t is e) = subst (Stands o (placed + 1)) (ap (λ (outcome : Outcome). outcome.placing) (sym e)) is
       go (refused i next none short e) =
-          let f : Refused (OfCall (FirstFit i)) ≡ Done count = ap (λ (outcome : Outcome). outcome.answer) (sym e) ∙ done in
+          let f : Err (OfCall (FirstFit i)) ≡ Ok count = ap (λ (outcome : Outcome). outcome.answer) (sym e) ∙ done in
           let z : ◌≡◌ {A = ℕ} 0 1 = cc f in
           absurd (omega arith)
 

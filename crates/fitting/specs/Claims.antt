@@ -1,5 +1,5 @@
 -- What first fit's placing and refusal say, in the document's words: claims, proved in proofs/Claims.antt.
-use Rattle.std.specs.Prelude.{◌≡◌, true, false, List, ◌↔◌, ◌⊎◌, ℕ, ◌+◌, ◌≤◌, ◌<◌, get_or, set}
+use Rattle.std.specs.Prelude.{◌≡◌, true, false, List, ◌↔◌, ◌⊎◌, ℕ, ◌+◌, ◌≤◌, ◌<◌, get_or, set, Ok}
 use Rattle.laws.specs.Sums.{sum}
 use Rattle.model.specs.Limits.{zero_partition}
 use Rattle.model.specs.Processors.{volume_of}
@@ -7,7 +7,7 @@ use Rattle.model.specs.Rules.{WithinLimits}
 use Rattle.demand.specs.Test.{verdict}
 use Rattle.turns.specs.Turns.{width_of, home_at}
 use Rattle.turns.specs.Claims.{IsNext}
-use Rattle.fitting.specs.Kinds.{Order, Partition, Passes, Placing}
+use Rattle.fitting.specs.Kinds.{Order, Partition, Placing}
 use Rattle.fitting.specs.Steps.{nothing_placed, going_on, refusing, living_in, accepts, turns_taken, first_fit}
 
 -- "it and all members there pass"
@@ -15,7 +15,7 @@ abbrev pub AcceptsMeans : Type 0
 AcceptsMeans =
     (o : Order) (homes : List ℕ) (i k : ℕ) →
     (accepts o homes i k ≡ true)
-    ↔ ((j : ℕ) → j < o.tasks → living_in (set homes i k) k j ≡ true → (worst : ℕ) × (verdict o (living_in (set homes i k) k) j ≡ Passes worst))
+    ↔ ((j : ℕ) → j < o.tasks → living_in (set homes i k) k j ≡ true → (worst : ℕ) × (verdict o (living_in (set homes i k) k) j ≡ Ok worst))
 
 -- opened partition k, its volume and its first processor
 abbrev pub opened : List Partition → ℕ → Partition
@@ -29,7 +29,7 @@ pub record Placed (o : Order) (homes : List ℕ) (places : List Partition) (coun
   pub some : 1 ≤ count
   pub few : count ≤ o.tasks
   pub in_one : (i : ℕ) → i < o.tasks → home_at homes i < count
-  pub passes : (i : ℕ) → i < o.tasks → (worst : ℕ) × (verdict o (living_in homes (home_at homes i)) i ≡ Passes worst)
+  pub passes : (i : ℕ) → i < o.tasks → (worst : ℕ) × (verdict o (living_in homes (home_at homes i)) i ≡ Ok worst)
   pub wide : (i : ℕ) → i < o.tasks → width_of o i ≤ volume_at places (home_at homes i)
   pub volume_least : (k : ℕ) → k < count → 1 ≤ volume_at places k
   pub lowest : (k : ℕ) → k < count → (opened places k).first ≡ sum (volume_at places) k

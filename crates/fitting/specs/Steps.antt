@@ -1,5 +1,5 @@
 -- "First fit by decreasing volume", turn by turn, for the tasks of an order on its processors.
-use Rattle.std.specs.Prelude.{Bool, true, List, ℕ, zero, suc, ◌+◌, ◌-◌, leb, eqb, set, replicate}
+use Rattle.std.specs.Prelude.{Bool, true, List, ℕ, zero, suc, ◌+◌, ◌-◌, leb, eqb, set, replicate, Ok, Err, Option, Some, None}
 use Rattle.laws.specs.Choice.{pick}
 use Rattle.laws.specs.Every.{every}
 use Rattle.model.specs.Limits.{most_tasks, most_partitions, zero_partition}
@@ -7,7 +7,7 @@ use Rattle.search.specs.Smallest.{first_of}
 use Rattle.demand.specs.Priority.{Members}
 use Rattle.demand.specs.Test.{verdict, does_pass}
 use Rattle.turns.specs.Turns.{width_of, unplaced, home_at, next_task}
-use Rattle.fitting.specs.Kinds.{Order, Done, Refused, OfCall, FirstFit, Found, At, Nothing, Placing, Outcome}
+use Rattle.fitting.specs.Kinds.{Order, OfCall, FirstFit, Placing, Outcome}
 
 -- no task is placed, no partition is open
 abbrev pub nothing_placed : Placing
@@ -29,11 +29,11 @@ open_next s m =
 
 -- a placing that goes on
 abbrev pub going_on : Placing → Outcome
-going_on s = record { answer = Done 0; placing = s }
+going_on s = record { answer = Ok 0; placing = s }
 
 -- "refuse, naming that task", in the placing where it was refused
 abbrev pub refusing : Placing → ℕ → Outcome
-refusing s i = record { answer = Refused (OfCall (FirstFit i)); placing = s }
+refusing s i = record { answer = Err (OfCall (FirstFit i)); placing = s }
 
 -- the tasks placed in partition k
 unfoldable pub living_in : List ℕ → (k : ℕ) → Members
@@ -52,7 +52,7 @@ unfoldable pub accepts : Order → List ℕ → (i k : ℕ) → Bool
 accepts o homes i k = members_pass o (set homes i k) k
 
 -- "the lowest-numbered partition where it and all members there pass"
-unfoldable pub lowest_accepting : Order → Placing → ℕ → Found
+unfoldable pub lowest_accepting : Order → Placing → ℕ → Option ℕ
 lowest_accepting o s i = first_of (accepts o s.homes i) 0 s.opened
 
 -- "if m processors are left, open the next partition .. Else refuse, naming that task."
@@ -61,21 +61,21 @@ opening o s i =
     pick (leb (width_of o i) (o.processors - s.used)) (going_on (put (open_next s (width_of o i)) i s.opened)) (refusing s i)
 
 -- "Put each in the lowest-numbered partition where it and all members there pass. Else, .."
-abbrev pub settled : Order → Placing → ℕ → Found → Outcome
-settled o s i (At k) = going_on (put s i k)
-settled o s i Nothing = opening o s i
+abbrev pub settled : Order → Placing → ℕ → Option ℕ → Outcome
+settled o s i (Some k) = going_on (put s i k)
+settled o s i None = opening o s i
 
 -- the task whose turn it is, settled
-abbrev pub after_turn : Order → Placing → Found → Outcome
-after_turn o s (At i) = settled o s i (lowest_accepting o s i)
-after_turn o s Nothing = going_on s
+abbrev pub after_turn : Order → Placing → Option ℕ → Outcome
+after_turn o s (Some i) = settled o s i (lowest_accepting o s i)
+after_turn o s None = going_on s
 
 unfoldable pub turn_taken : Order → Placing → Outcome
 turn_taken o s = after_turn o s (next_task o s.homes o.tasks)
 
 -- what follows, unless a task was refused
 unfoldable pub unless_refused : Outcome → (Placing → Outcome) → Outcome
-unless_refused outcome next = elim outcome.answer [ Done count ↦ next outcome.placing | Refused cause ↦ outcome ]
+unless_refused outcome next = elim outcome.answer [ Ok count ↦ next outcome.placing | Err cause ↦ outcome ]
 
 -- so many turns
 unfoldable pub turns_taken : Order → ℕ → Placing → Outcome

@@ -5,7 +5,7 @@ ghost use Rattle.std.specs.Prelude.{◌≡◌, ◌+◌, ◌≤◌, ◌<◌};
 ghost use Rattle.model.specs.Limits.{most_tasks, most_partitions, most_processors};
 ghost use Rattle.fitting.specs.Steps.{nothing_placed, put as put_of, open_next, going_on};
 
-use model::{Answer, Build, Order, Partition};
+use model::{Build, Order, Partition, Refusal};
 
 // Each task's partition, the opened partitions, their count, and the processors used.
 #[derive(Clone, Copy)]
@@ -61,7 +61,7 @@ impl Placing {
 // The placing that was reached, and whether it went on or a task was refused there.
 #[derive(Clone, Copy)]
 pub struct Outcome {
-    pub answer: Answer,
+    pub answer: Result<u32, Refusal>,
     pub placing: Placing,
 }
 
@@ -69,7 +69,7 @@ pub fn going_on(placing: Placing) -> Outcome
     ensures { result ≡ going_on placing }
 {
     Outcome {
-        answer: Answer::Done(0),
+        answer: Ok(0),
         placing,
     }
 }

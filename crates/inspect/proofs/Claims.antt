@@ -1,12 +1,12 @@
 -- The check answers as specs/Claims.antt says.
+use Rattle.std.specs.Prelude.{Ok, Err}
 use mathlib.Core.Path.{◌≡◌, refl, sym, ap, ◌∙◌}
 use mathlib.Core.List.{List, ◌++◌}
 use Prim.Native.Nat.{ℕ, ◌<◌}
 use lib.ListN.{length}
 use Rattle.model.specs.declared.order.Order.{Order}
 use Rattle.model.specs.declared.build.Build.{Build}
-use Rattle.model.specs.declared.answer.Answer.{Answer}
-use Rattle.model.specs.declared.answer.Answer.TheVariants.{Done, Refused}
+use Rattle.model.specs.Kinds.{Answer}
 use Rattle.model.specs.Limits.{task_of, member_of, home_of}
 use Rattle.model.specs.Answer.{answer_count}
 use Rattle.model.specs.Rules.{WithinLimits, AllKept, RightAnswer, OneRightAnswer, task_rules, range_rules}
@@ -14,7 +14,6 @@ use Rattle.model.proofs.Rules.{done_pass, pass_done, pass_front, kept_append, ke
 use Rattle.order.specs.Order.{header_of, order_at, header_rules, spare_rules, layout_rules, order_rules}
 use Rattle.order.proofs.Reading.{within_limits}
 use Rattle.build.specs.Build.{build_at}
-use Rattle.demand.specs.declared.Verdict.TheVariants.{Passes}
 use Rattle.demand.specs.Priority.{members_of}
 use Rattle.demand.specs.Test.{verdict}
 use Rattle.demand.specs.Meaning.{IsPassing}
@@ -136,7 +135,7 @@ one_check_answer order build answer = one_right_answer 0 (check_rules order buil
 pub refused_exactly : RefusedExactly
 unfolding RightAnswer
 refused_exactly order build refusal =
-    let one = one_check_answer order build (Refused refusal) in
+    let one = one_check_answer order build (Err refusal) in
     (λ e. one.0 (sym e), λ first. sym (one.1 first))
 
 pub no_other_check_answer : NoOtherCheckAnswer
@@ -153,17 +152,17 @@ unfolding answer_count RightAnswer
 counts_nothing order build = go (check_answer order build) refl
   where
     go : (answer : Answer) → answer ≡ check_answer order build → answer_count answer ≡ 0
-    go (Done count) e = ((one_check_answer order build (Done count)).0 e).0
-    go (Refused refusal) e = refl
+    go (Ok count) e = ((one_check_answer order build (Ok count)).0 e).0
+    go (Err refusal) e = refl
 
 -- 27 to 30 of a member say that its verdict is to pass with the response that is recorded
 module _ (o : Order) (b : Build) (limits : WithinLimits o) where
-  records_passing : RecordsRight o b → (i : ℕ) → i < o.tasks → verdict o (members_of b (home_of b i)) i ≡ Passes (member_of b i).response
+  records_passing : RecordsRight o b → (i : ℕ) → i < o.tasks → verdict o (members_of b (home_of b i)) i ≡ Ok (member_of b i).response
   records_passing r i l =
       let member = members_of b (home_of b i) in
       let t = r.in_time_lem i l in
       let e = ((every_verdict_means o member i limits l).passes t.worst).1 (worst_passing o member i t.worst t.worst_is t.at_most) in
-      e ∙ ap Passes (sym (worst_one o member i limits l t.worst (member_of b i).response e (r.responses i l)))
+      e ∙ ap Ok (sym (worst_one o member i limits l t.worst (member_of b i).response e (r.responses i l)))
 
   passing_records : AcceptedBuild o b → RecordsRight o b
   passing_records a =

@@ -1,9 +1,8 @@
 -- What the check promises beyond its definition: claims, proved in proofs/Claims.antt.
-use Rattle.std.specs.Prelude.{ℕ, ◌≤◌, ◌<◌, ◌≡◌, List, ◌↔◌, length}
+use Rattle.std.specs.Prelude.{ℕ, ◌≤◌, ◌<◌, ◌≡◌, List, ◌↔◌, length, Ok, Err}
 use Rattle.model.specs.declared.order.Order.{Order}
 use Rattle.model.specs.declared.build.Build.{Build}
-use Rattle.model.specs.declared.answer.Answer.{Answer}
-use Rattle.model.specs.declared.answer.Answer.TheVariants.{Done, Refused}
+use Rattle.model.specs.Kinds.{Answer}
 use Rattle.model.specs.declared.answer.Refusal.{Refusal}
 use Rattle.model.specs.Limits.{most_tasks, most_processors, most_partitions, task_of, member_of, home_of}
 use Rattle.model.specs.Layouts.{order_length, build_length}
@@ -11,7 +10,6 @@ use Rattle.model.specs.Answer.{answer_count}
 use Rattle.model.specs.Rules.{InRange, TaskInRange, WithinLimits, FirstOffence, RightAnswer}
 use Rattle.order.specs.Order.{header_of, task_spare_at, order_at}
 use Rattle.build.specs.Build.{build_header_of, build_at}
-use Rattle.demand.specs.declared.Verdict.TheVariants.{Passes}
 use Rattle.demand.specs.Priority.{members_of, rank}
 use Rattle.demand.specs.Test.{verdict}
 use Rattle.inspect_layout.specs.Rules.{HeaderMatches, SparesZero}
@@ -57,11 +55,11 @@ pub record EveryRule (order build : List ℕ) : Type 0 where
 
 -- the check answers 0 exactly when every rule holds
 abbrev pub DoneExactly : Type 0
-DoneExactly = (order build : List ℕ) → (check_answer order build ≡ Done 0) ↔ EveryRule order build
+DoneExactly = (order build : List ℕ) → (check_answer order build ≡ Ok 0) ↔ EveryRule order build
 
 -- it answers a number exactly when that rule is broken first, at that place: its rule is broken and every rule before it holds
 abbrev pub RefusedExactly : Type 0
-RefusedExactly = (order build : List ℕ) (refusal : Refusal) → (check_answer order build ≡ Refused refusal) ↔ FirstOffence (check_rules order build) refusal
+RefusedExactly = (order build : List ℕ) (refusal : Refusal) → (check_answer order build ≡ Err refusal) ↔ FirstOffence (check_rules order build) refusal
 
 -- "the statement leaves one possible number, place, count": one answer is right, and it is the check's
 abbrev pub OneCheckAnswer : Type 0
@@ -90,11 +88,11 @@ pub record AcceptedBuild (o : Order) (b : Build) : Type 0 where
   pub places : (p : ℕ) → p < b.partitions → PartitionRight o.processors b p
   pub widths : (i : ℕ) → i < o.tasks → WideEnough o b i
   pub ranks : (i : ℕ) → i < o.tasks → (member_of b i).rank ≡ rank o (members_of b (home_of b i)) i
-  pub passing : (i : ℕ) → i < o.tasks → verdict o (members_of b (home_of b i)) i ≡ Passes (member_of b i).response
+  pub passing : (i : ℕ) → i < o.tasks → verdict o (members_of b (home_of b i)) i ≡ Ok (member_of b i).response
 
 abbrev pub DoneAccepts : Type 0
-DoneAccepts = (order build : List ℕ) → check_answer order build ≡ Done 0 → AcceptedBuild (order_at order) (build_at build)
+DoneAccepts = (order build : List ℕ) → check_answer order build ≡ Ok 0 → AcceptedBuild (order_at order) (build_at build)
 
 -- and what is enough to be accepted
 abbrev pub AcceptedDone : Type 0
-AcceptedDone = (order build : List ℕ) → OrderRight order → LayoutRight (order_at order) build → AcceptedBuild (order_at order) (build_at build) → check_answer order build ≡ Done 0
+AcceptedDone = (order build : List ℕ) → OrderRight order → LayoutRight (order_at order) build → AcceptedBuild (order_at order) (build_at build) → check_answer order build ≡ Ok 0

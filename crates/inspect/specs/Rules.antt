@@ -1,9 +1,8 @@
 -- "The check: the order's 1 to 10, then 20 to 23 in turn, all partitions for 24, all tasks for 25, all for 26, then task by task 27 to 30."
-use Rattle.std.specs.Prelude.{ℕ, ◌≡◌, List, ◌++◌}
+use Rattle.std.specs.Prelude.{ℕ, ◌≡◌, List, ◌++◌, Ok, Err}
 use Rattle.model.specs.declared.order.Order.{Order}
 use Rattle.model.specs.declared.build.Build.{Build}
-use Rattle.model.specs.declared.answer.Answer.{Answer}
-use Rattle.model.specs.declared.answer.Answer.TheVariants.{Done, Refused}
+use Rattle.model.specs.Kinds.{Answer}
 use Rattle.model.specs.Limits.{empty_order, empty_build}
 use Rattle.model.specs.Rules.{Rule, first_broken}
 use Rattle.order.specs.Order.{order_at, order_rules}
@@ -35,8 +34,8 @@ Checks order build answer = answer ≡ check_answer order build
 
 -- a check that hands on the order and the build that it read, empty ones on refusal
 abbrev pub checked_by : Answer → Order → Build → Checked
-checked_by (Done count) o b = record { answer = Done count; order = o; build = b }
-checked_by (Refused cause) o b = record { answer = Refused cause; order = empty_order; build = empty_build }
+checked_by (Ok count) o b = record { answer = Ok count; order = o; build = b }
+checked_by (Err cause) o b = record { answer = Err cause; order = empty_order; build = empty_build }
 
 abbrev pub ChecksBoth : List ℕ → List ℕ → Checked → Type 0
 ChecksBoth order build checked = checked ≡ checked_by (check_answer order build) (order_at order) (build_at build)

@@ -2,7 +2,6 @@
 #![tactic(auto)]
 
 ghost use Rattle.std.specs.Prelude.{◌≡◌};
-ghost use Rattle.model.specs.declared.answer.Answer.TheVariants.{Refused};
 ghost use Rattle.model.specs.Limits.{empty_order, empty_build};
 ghost use Rattle.model.specs.Rules.{first_broken, WithinLimits};
 ghost use Rattle.build.specs.Build.{build_at, FieldsFit};
@@ -10,33 +9,33 @@ ghost use Rattle.inspect_layout.specs.Rules.{laid_by};
 ghost use Rattle.inspect.specs.Rules.{build_record_rules, build_rules, checked_by, Checks, ChecksBoth};
 
 use inspect_layout::Laid;
-use model::{Answer, Build, Order, Refusal};
+use model::{Build, Order, Refusal};
 
 // The answer, with the order and the build that were read.
 #[derive(Clone, Copy)]
 pub struct Checked {
-    pub answer: Answer,
+    pub answer: Result<u32, Refusal>,
     pub order: Order,
     pub build: Build,
 }
 
 // 24 to 30: all partitions for 24, all tasks for 25, all for 26, then task by task 27 to 30.
-fn judge_records(order: Order, build: Build) -> Answer
+fn judge_records(order: Order, build: Build) -> Result<u32, Refusal>
     requires { WithinLimits order × FieldsFit build }
     ensures { result ≡ first_broken 0 (build_record_rules order build) }
 {
     let placed = inspect_places::judge_places(order, build);
-    if let Answer::Refused(cause) = placed {
-        return Answer::Refused(cause);
+    if let Err(cause) = placed {
+        return Err(cause);
     }
     let wide = inspect_members::judge_widths(order, build);
-    if let Answer::Refused(cause) = wide {
-        return Answer::Refused(cause);
+    if let Err(cause) = wide {
+        return Err(cause);
     }
     let keys = inspect_members::line_up(order, build);
     let ranked = inspect_members::judge_ranks(order, build, keys);
-    if let Answer::Refused(cause) = ranked {
-        return Answer::Refused(cause);
+    if let Err(cause) = ranked {
+        return Err(cause);
     }
     inspect_tests::judge_tests(order, build, keys)
 }
@@ -48,14 +47,14 @@ fn check_build(order: Order, build: &[u8]) -> Laid
 {
     let laid = inspect_layout::judge_layout(order, build);
     let layout = laid.answer;
-    if let Answer::Refused(_) = layout {
+    if let Err(_) = layout {
         return laid;
     }
     let read = laid.build;
     let judged = judge_records(order, read);
-    if let Answer::Refused(cause) = judged {
+    if let Err(cause) = judged {
         return Laid {
-            answer: Answer::Refused(cause),
+            answer: Err(cause),
             build: Build::empty(),
         };
     }
@@ -63,10 +62,10 @@ fn check_build(order: Order, build: &[u8]) -> Laid
 }
 
 fn refused(cause: Refusal) -> Checked
-    ensures { result ≡ checked_by (Refused cause) empty_order empty_build }
+    ensures { result ≡ checked_by (Err cause) empty_order empty_build }
 {
     Checked {
-        answer: Answer::Refused(cause),
+        answer: Err(cause),
         order: Order::empty(),
         build: Build::empty(),
     }
@@ -78,13 +77,13 @@ pub fn check_both(order: &[u8], build: &[u8]) -> Checked
 {
     let reading = order::read_order(order);
     let read = reading.answer;
-    if let Answer::Refused(cause) = read {
+    if let Err(cause) = read {
         return refused(cause);
     }
     let ordered = reading.order;
     let laid = check_build(ordered, build);
     let answer = laid.answer;
-    if let Answer::Refused(cause) = answer {
+    if let Err(cause) = answer {
         return refused(cause);
     }
     let built = laid.build;
@@ -95,7 +94,7 @@ pub fn check_both(order: &[u8], build: &[u8]) -> Checked
     }
 }
 
-pub fn check(order: &[u8], build: &[u8]) -> Answer
+pub fn check(order: &[u8], build: &[u8]) -> Result<u32, Refusal>
     ensures { Checks order.now build.now result }
 {
     let checked = check_both(order, build);

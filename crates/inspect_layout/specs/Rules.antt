@@ -1,11 +1,10 @@
 -- "20 to 23 in turn": the build's header, its length and its spare bits.
-use Rattle.std.specs.Prelude.{ℕ, ◌<◌, ◌≡◌, Bool, false, ◌&&◌, List, [], ◌∷◌, length, eqb}
+use Rattle.std.specs.Prelude.{ℕ, ◌<◌, ◌≡◌, Bool, false, ◌&&◌, List, [], ◌∷◌, length, eqb, Ok, Err}
 use Rattle.laws.specs.Choice.{pick, within}
 use Rattle.bits.specs.Layout.{bytes_in}
 use Rattle.model.specs.declared.order.Order.{Order}
 use Rattle.model.specs.declared.build.Build.{Build}
-use Rattle.model.specs.declared.answer.Answer.{Answer}
-use Rattle.model.specs.declared.answer.Answer.TheVariants.{Done, Refused}
+use Rattle.model.specs.Kinds.{Answer}
 use Rattle.model.specs.declared.answer.Refusal.TheVariants.{OfBuild}
 use Rattle.model.specs.declared.answer.BuildCause.TheVariants.{BuildShort, BuildMismatch, BuildLength, BuildSpare}
 use Rattle.model.specs.Limits.{most_partitions, empty_build}
@@ -50,8 +49,8 @@ build_layout_rules o s =
 
 -- what the layout's judge answers: 20 to 23, and the build that was read, an empty one on refusal
 abbrev pub laid_by : Answer → Build → Laid
-laid_by (Done count) b = record { answer = Done count; build = b }
-laid_by (Refused cause) b = record { answer = Refused cause; build = empty_build }
+laid_by (Ok count) b = record { answer = Ok count; build = b }
+laid_by (Err cause) b = record { answer = Err cause; build = empty_build }
 
 abbrev pub LaysOut : Order → List ℕ → Laid → Type 0
 LaysOut o s laid = laid ≡ laid_by (first_broken 0 (build_layout_rules o s)) (build_at s)

@@ -2,18 +2,17 @@
 #![tactic(auto)]
 
 ghost use Rattle.std.specs.Prelude.{◌≡◌, ◌≤◌};
-ghost use Rattle.model.specs.declared.answer.Answer.TheVariants.{Refused};
 ghost use Rattle.model.specs.declared.answer.Refusal.TheVariants.{OfBuild};
 ghost use Rattle.model.specs.Limits.{most_tasks, empty_build};
 ghost use Rattle.inspect_layout.specs.Rules.{header_matches, laid_by, LaysOut};
 
 use build::BuildHeader;
-use model::{Answer, Build, BuildCause, Order, Refusal};
+use model::{Build, BuildCause, Order, Refusal};
 
 // The build, empty where it is refused.
 #[derive(Clone, Copy)]
 pub struct Laid {
-    pub answer: Answer,
+    pub answer: Result<u32, Refusal>,
     pub build: Build,
 }
 
@@ -34,10 +33,10 @@ fn header_matches(order: Order, header: BuildHeader) -> bool
 }
 
 fn refused(cause: BuildCause) -> Laid
-    ensures { result ≡ laid_by (Refused (OfBuild cause)) empty_build }
+    ensures { result ≡ laid_by (Err (OfBuild cause)) empty_build }
 {
     Laid {
-        answer: Answer::Refused(Refusal::OfBuild(cause)),
+        answer: Err(Refusal::OfBuild(cause)),
         build: Build::empty(),
     }
 }
@@ -63,7 +62,7 @@ pub fn judge_layout(order: Order, build: &[u8]) -> Laid
     }
     let read = taken.build;
     Laid {
-        answer: Answer::Done(0),
+        answer: Ok(0),
         build: read,
     }
 }

@@ -9,7 +9,7 @@ ghost use Rattle.model.specs.Processors.{processor_of};
 ghost use Rattle.model.specs.Rules.{first_broken};
 ghost use Rattle.inspect_places.specs.Rules.{has_processor, place_rules};
 
-use model::{Answer, Build, BuildCause, Order, Partition, Refusal};
+use model::{Build, BuildCause, Order, Partition, Refusal};
 
 // One flag a processor.
 const FLAGS: usize = Order::MOST_PROCESSORS as usize;
@@ -63,7 +63,7 @@ fn partition_right(processors: u32, place: Partition, taken: [bool; FLAGS]) -> b
 }
 
 // All partitions, each against what the earlier ones have taken.
-pub fn judge_places(order: Order, build: Build) -> Answer
+pub fn judge_places(order: Order, build: Build) -> Result<u32, Refusal>
     requires { (order.processors ≤ most_processors) × (build.partitions ≤ most_partitions) × ((p : ℕ) → p < build.partitions → ((place_of build p).volume < 2 ^ 7) × ((place_of build p).first < 2 ^ 6)) }
     ensures { result ≡ first_broken 0 (place_rules order build) }
 {
@@ -73,11 +73,11 @@ pub fn judge_places(order: Order, build: Build) -> Answer
     while i < build.partitions as usize {
         let place = places[i];
         if !partition_right(order.processors, place, taken) {
-            return Answer::Refused(Refusal::OfBuild(BuildCause::PartitionPlace(i as u16)));
+            return Err(Refusal::OfBuild(BuildCause::PartitionPlace(i as u16)));
         }
         let more = take_all(place, taken);
         taken = more;
         i += 1;
     }
-    Answer::Done(0)
+    Ok(0)
 }

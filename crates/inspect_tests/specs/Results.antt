@@ -5,7 +5,7 @@ use Rattle.model.specs.declared.order.Order.{Order}
 use Rattle.model.specs.declared.build.Member.{Member}
 use Rattle.model.specs.declared.build.Build.{Build}
 use Rattle.model.specs.Limits.{most_tasks, zero_member, task_of, member_of, home_of}
-use Rattle.demand.specs.declared.Verdict.{Verdict}
+use Rattle.demand.specs.Verdict.{Verdict}
 use Rattle.demand.specs.Priority.{members_of, rank}
 use Rattle.demand.specs.Releases.{work_by}
 use Rattle.demand.specs.Test.{blocking, higher_work, verdict, response_of}

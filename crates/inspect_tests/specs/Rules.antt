@@ -1,5 +1,5 @@
 -- "then task by task 27 to 30": the response test of each task, and its recorded response.
-use Rattle.std.specs.Prelude.{ℕ, ◌*◌, ◌≤◌, ◌<◌, Bool, true, false, List, [], ◌∷◌, eqb}
+use Rattle.std.specs.Prelude.{ℕ, ◌*◌, ◌≤◌, ◌<◌, Bool, true, false, List, [], ◌∷◌, eqb, Ok, Err}
 use Rattle.laws.specs.Joined.{joined}
 use Rattle.model.specs.declared.order.Order.{Order}
 use Rattle.model.specs.declared.build.Build.{Build}
@@ -7,8 +7,8 @@ use Rattle.model.specs.declared.answer.Refusal.TheVariants.{OfBuild}
 use Rattle.model.specs.declared.answer.BuildCause.TheVariants.{Window, Start, Late, Response}
 use Rattle.model.specs.Limits.{member_of, home_of}
 use Rattle.model.specs.Rules.{Rule, rule}
-use Rattle.demand.specs.declared.Verdict.{Verdict}
-use Rattle.demand.specs.declared.Verdict.TheVariants.{Passes, NoWindow, NoStart, TooLate}
+use Rattle.demand.specs.Verdict.{Verdict}
+use Rattle.demand.specs.declared.Failing.TheVariants.{NoWindow, NoStart, TooLate}
 use Rattle.demand.specs.Priority.{Members, members_of, deadline_of}
 use Rattle.demand.specs.Releases.{period_of}
 use Rattle.demand.specs.Test.{verdict}
@@ -41,29 +41,29 @@ module _ (o : Order) (member : Members) (i : ℕ) where
 
 -- the tests, by the verdict
 abbrev pub window_there : Verdict → Bool
-window_there (Passes worst) = true
-window_there NoWindow = false
-window_there NoStart = true
-window_there TooLate = true
+window_there (Ok worst) = true
+window_there (Err NoWindow) = false
+window_there (Err NoStart) = true
+window_there (Err TooLate) = true
 
 abbrev pub starts_there : Verdict → Bool
-starts_there (Passes worst) = true
-starts_there NoWindow = true
-starts_there NoStart = false
-starts_there TooLate = true
+starts_there (Ok worst) = true
+starts_there (Err NoWindow) = true
+starts_there (Err NoStart) = false
+starts_there (Err TooLate) = true
 
 abbrev pub in_time : Verdict → Bool
-in_time (Passes worst) = true
-in_time NoWindow = true
-in_time NoStart = true
-in_time TooLate = false
+in_time (Ok worst) = true
+in_time (Err NoWindow) = true
+in_time (Err NoStart) = true
+in_time (Err TooLate) = false
 
 -- 30: "recorded response differs"
 abbrev pub response_right : Verdict → ℕ → Bool
-response_right (Passes worst) recorded = eqb recorded worst
-response_right NoWindow recorded = true
-response_right NoStart recorded = true
-response_right TooLate recorded = true
+response_right (Ok worst) recorded = eqb recorded worst
+response_right (Err NoWindow) recorded = true
+response_right (Err NoStart) recorded = true
+response_right (Err TooLate) recorded = true
 
 -- 27 to 30 of member i with a recorded response, by a verdict
 abbrev pub verdict_rules : Order → Members → (i recorded : ℕ) → Verdict → List Rule

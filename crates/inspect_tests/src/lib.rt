@@ -12,7 +12,7 @@ ghost use Rattle.inspect_tests.specs.Rules.{test_rules};
 ghost use Rattle.inspect_tests.specs.Results.{SomeLineup, last_above, TestedBelow, Lowered, TestedRanks, TestedBefore, ResultsFor, right_response, SomeTaskThere, TellsWindow, RanksRecorded};
 
 use asked::ROWS;
-use model::{Answer, Build, BuildCause, Member, Order, Refusal};
+use model::{Build, BuildCause, Member, Order, Refusal};
 use verdict::Tested;
 
 // By number, of the tasks up to the lowest that does not pass: a task's worst response, 0 where it does not pass; and of every task a tick before which its window does not close.
@@ -203,7 +203,7 @@ fn first_wrong(
 }
 
 // Task by task 27 to 30; 28 never comes, since a window gives every start.
-pub fn judge_tests(order: Order, build: Build, keys: [u32; Order::MOST_TASKS]) -> Answer
+pub fn judge_tests(order: Order, build: Build, keys: [u32; Order::MOST_TASKS]) -> Result<u32, Refusal>
     requires { WithinLimits order × LineOf order build keys × RanksRecorded order build }
     ensures { result ≡ first_broken 0 (test_rules order build) }
 {
@@ -215,14 +215,14 @@ pub fn judge_tests(order: Order, build: Build, keys: [u32; Order::MOST_TASKS]) -
     let lasts = results.lasts;
     let i = first_wrong(members, worsts, tasks);
     if i == tasks {
-        return Answer::Done(0);
+        return Ok(0);
     }
     if 0 < worsts[i] {
-        return Answer::Refused(Refusal::OfBuild(BuildCause::Response(i as u16)));
+        return Err(Refusal::OfBuild(BuildCause::Response(i as u16)));
     }
     let member = members[i];
     if window_there(&table, &keys, tasks, member, lasts[i]) {
-        return Answer::Refused(Refusal::OfBuild(BuildCause::Late(i as u16)));
+        return Err(Refusal::OfBuild(BuildCause::Late(i as u16)));
     }
-    Answer::Refused(Refusal::OfBuild(BuildCause::Window(i as u16)))
+    Err(Refusal::OfBuild(BuildCause::Window(i as u16)))
 }

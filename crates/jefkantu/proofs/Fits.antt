@@ -1,4 +1,5 @@
 -- An answer of rules in turn fits the word, where the place of each rule's refusal does.
+use Rattle.std.specs.Prelude.{Err}
 use mathlib.Core.Path.{◌≡◌, refl, subst}
 use mathlib.Core.Bool.{Bool, true, false}
 use mathlib.Core.List.{List, [], ◌∷◌, ◌++◌, append-nil}
@@ -6,7 +7,6 @@ use Prim.Native.Nat.{ℕ, zero, suc, ◌<◌}
 use native.Mathlib.Omega.{arith}
 use Rattle.laws.specs.Choice.{pick}
 use Rattle.laws.specs.Joined.{joined}
-use Rattle.model.specs.declared.answer.Answer.TheVariants.{Refused}
 use Rattle.model.specs.Answer.{cause_place, answer_place, answer_count}
 use Rattle.model.specs.Rules.{Rule, first_broken}
 use Rattle.model.proofs.Rules.{AllPass}
@@ -34,7 +34,7 @@ module _ (count : ℕ) where
   answer_fits [] b places rest = rest tt
   answer_fits (r ∷ a) b places rest = go (λ (h : r.fact.test ≡ true). answer_fits a b places.1 (λ all. rest (h, all))) r.fact.test refl
     where
-      go : (r.fact.test ≡ true → FitsWord (first_broken count (a ++ b))) → (h : Bool) → r.fact.test ≡ h → FitsWord (pick h (first_broken count (a ++ b)) (Refused r.refusal))
+      go : (r.fact.test ≡ true → FitsWord (first_broken count (a ++ b))) → (h : Bool) → r.fact.test ≡ h → FitsWord (pick h (first_broken count (a ++ b)) (Err r.refusal))
       go on true e = on e
       go on false e = record { place = places.0; count = omega arith }
 

@@ -1,4 +1,5 @@
 -- Every place and count that the functions of orders, builds, runs and texts answer fits its part of the word.
+use Rattle.std.specs.Prelude.{Ok, Err}
 use mathlib.Core.Path.{◌≡◌, refl, ap}
 use mathlib.Core.List.{List, [], ◌∷◌}
 use Prim.Native.Nat.{ℕ, ◌%◌, ◌≤◌, ◌<◌}
@@ -11,8 +12,7 @@ use Rattle.laws.specs.Joined.{joined}
 use Rattle.laws.proofs.Every.{and_both}
 use Rattle.model.specs.declared.order.Order.{Order}
 use Rattle.model.specs.declared.build.Build.{Build}
-use Rattle.model.specs.declared.answer.Answer.{Answer}
-use Rattle.model.specs.declared.answer.Answer.TheVariants.{Done, Refused}
+use Rattle.model.specs.Kinds.{Answer}
 use Rattle.model.specs.Layouts.{order_length}
 use Rattle.model.specs.Rules.{range_rules, room_rules, WithinLimits}
 use Rattle.model.proofs.Rules.{AllPass}
@@ -84,8 +84,8 @@ unfolding PlacesFit
 fit_places o limits = go (fitted_of o).answer refl
   where
     go : (a : Answer) → (fitted_of o).answer ≡ a → PlacesFit (fit_rules o a)
-    go (Done count) e = tt
-    go (Refused cause) e =
+    go (Ok count) e = tt
+    go (Err cause) e =
         let r = (fitted_is_refused o (fitted_of o).build cause limits (ap (λ (a : Answer). record { answer = a; build = (fitted_of o).build }) e)).1.1 in
         (rw r.1 (omega (arith, r.2.next.below, limits.tasks)), tt)
 

@@ -1,7 +1,6 @@
 -- What the C surface promises of lists of processors and of partitions' sets: the word answered, and all that the caller's memory holds afterwards.
-use Rattle.std.specs.Prelude.{ℕ, ◌≡◌, List, length}
-use Rattle.model.specs.declared.answer.Answer.{Answer}
-use Rattle.model.specs.declared.answer.Answer.TheVariants.{Done, Refused}
+use Rattle.std.specs.Prelude.{ℕ, ◌≡◌, List, length, Ok, Err}
+use Rattle.model.specs.Kinds.{Answer}
 use Rattle.model.specs.Answer.{output_after}
 use Rattle.build.specs.Build.{build_at}
 use Rattle.list_form.specs.ListText.{list_text}
@@ -17,8 +16,8 @@ pub record WritesSet (set : ℕ) (output : List ℕ) (word : ℕ) (after : List 
 
 -- the caller's set after a reading: "the set is written only on success"
 unfoldable pub set_after : Answer → (read before : ℕ) → ℕ
-set_after (Done count) read before = read
-set_after (Refused cause) read before = before
+set_after (Ok count) read before = read
+set_after (Err cause) read before = before
 
 -- what jefkantu_read_list promises
 pub record ReadsSet (text : List ℕ) (set word after : ℕ) : Type 0 where

@@ -1,10 +1,9 @@
 -- What the C surface promises of orders read and written: the word answered, and all that the caller's memory holds afterwards.
-use Rattle.std.specs.Prelude.{ℕ, ◌≡◌, List, [], ◌∷◌, length}
+use Rattle.std.specs.Prelude.{ℕ, ◌≡◌, List, [], ◌∷◌, length, Ok, Err}
 use Rattle.laws.specs.Joined.{joined}
 use Rattle.model.specs.declared.order.Task.{Task}
 use Rattle.model.specs.declared.order.Order.{Order}
-use Rattle.model.specs.declared.answer.Answer.{Answer}
-use Rattle.model.specs.declared.answer.Answer.TheVariants.{Done, Refused}
+use Rattle.model.specs.Kinds.{Answer}
 use Rattle.model.specs.Answer.{output_after}
 use Rattle.model.specs.Limits.{most_tasks, task_of}
 use Rattle.order.specs.Order.{read_order, order_bytes}
@@ -21,8 +20,8 @@ order_numbers o = o.processors ∷ o.tasks ∷ joined (λ i. four_numbers (task_
 
 -- the caller's numbers after a reading: a refusal leaves them as they were
 unfoldable pub numbers_after : Answer → Order → List ℕ → List ℕ
-numbers_after (Done count) order numbers = order_numbers order
-numbers_after (Refused cause) order numbers = numbers
+numbers_after (Ok count) order numbers = order_numbers order
+numbers_after (Err cause) order numbers = numbers
 
 -- what jefkantu_read_order promises
 pub record ReadsOrder (order numbers : List ℕ) (word : ℕ) (after : List ℕ) : Type 0 where

@@ -1,6 +1,6 @@
 -- "Every answer has a number, a place and a count": the three in one word, as C gets them, and taken out again.
 use Rattle.std.specs.Prelude.{ℕ, ◌+◌, ◌*◌, ◌/◌, ◌%◌, ◌<◌, ◌≡◌}
-use Rattle.model.specs.declared.answer.Answer.{Answer}
+use Rattle.model.specs.Kinds.{Answer}
 use Rattle.model.specs.Answer.{answer_number, answer_place, answer_count}
 
 -- number + place * 2^16 + count * 2^32

@@ -11,7 +11,7 @@ ghost use Rattle.jefkantu.specs.Texts.{ReadsForm, WritesForm};
 ghost use Rattle.jefkantu.specs.Lists.{WritesSet, ReadsSet, GivesPartitionSets};
 ghost use Rattle.jefkantu.specs.Late.{ShowsLateScript};
 
-use model::{Answer, Order};
+use model::{Order, Refusal};
 
 // "65,535 where none applies"
 const NO_PLACE: u64 = 65_535;
@@ -20,12 +20,12 @@ const NO_PLACE: u64 = 65_535;
 pub const ORDER_NUMBERS: usize = 2 + 4 * Order::MOST_TASKS;
 
 // Number, place and count in one word.
-pub fn answer_word(answer: Answer) -> u64
+pub fn answer_word(answer: Result<u32, Refusal>) -> u64
     ensures { result ≡ answer_word answer }
 {
     match answer {
-        Answer::Done(count) => NO_PLACE * 65_536 + count as u64 * 4_294_967_296,
-        Answer::Refused(cause) => cause.number() as u64 + cause.place() as u64 * 65_536,
+        Ok(count) => NO_PLACE * 65_536 + count as u64 * 4_294_967_296,
+        Err(cause) => cause.number() as u64 + cause.place() as u64 * 65_536,
     }
 }
 
@@ -56,7 +56,7 @@ pub fn jefkantu_read_order(order: &[u8], numbers: &mut [u32; ORDER_NUMBERS]) -> 
 {
     let reading = order::read_order(order);
     let answer = reading.answer;
-    if let Answer::Done(_) = answer {
+    if let Ok(_) = answer {
         let read = reading.order;
         let told = order_numbers(read);
         *numbers = told;
@@ -133,7 +133,7 @@ pub fn jefkantu_read_list(text: &[u8], set: &mut u64) -> u64
 {
     let reading = list::read_list(text);
     let answer = reading.answer;
-    if let Answer::Done(_) = answer {
+    if let Ok(_) = answer {
         *set = reading.set;
     }
     answer_word(answer)

@@ -1,4 +1,5 @@
 -- The answer part by part: the order's refusals, 63, then 64 and 12 of the script.
+use Rattle.std.specs.Prelude.{Ok, Err, Some, None}
 use mathlib.Core.Path.{◌≡◌, refl, sym, ap, ◌∙◌}
 use mathlib.Core.Bool.{true}
 use mathlib.Core.List.{List}
@@ -7,8 +8,7 @@ use lib.ListN.{length}
 use borrow.Author.Tests.{le-leb, lt-leb}
 use Rattle.laws.proofs.Every.{clash}
 use Rattle.model.specs.declared.build.Release.{Release}
-use Rattle.model.specs.declared.answer.Answer.{Answer}
-use Rattle.model.specs.declared.answer.Answer.TheVariants.{Done, Refused}
+use Rattle.model.specs.Kinds.{Answer}
 use Rattle.model.specs.declared.answer.Refusal.{Refusal}
 use Rattle.model.specs.declared.answer.Refusal.TheVariants.{OfOrder, OfCall, OfBuild, OfScript, OfText, OfList, OfLate}
 use Rattle.model.specs.declared.answer.BuildCause.{BuildCause}
@@ -22,7 +22,6 @@ use Rattle.model.proofs.Rules.{pass_on, stop, done_pass, any_count, room_stop, r
 use Rattle.order.specs.Order.{order_at, order_rules}
 use Rattle.order.proofs.Rules.{order_tells}
 use Rattle.build.specs.Build.{build_at}
-use Rattle.search.specs.declared.Found.TheVariants.{At, Nothing}
 use Rattle.search.specs.Smallest.{number_found}
 use Rattle.demand.proofs.Largest.{at_one}
 use Rattle.verdict.specs.Tested.{is_there}
@@ -52,18 +51,18 @@ named_in_refusal (OfText cause) e = clash e
 named_in_refusal (OfList cause) e = clash e
 named_in_refusal (OfLate cause) e = clash e
 
-pub named_in : (answer : Answer) → is_there (late_task answer) ≡ true → (task : ℕ) × (answer ≡ Refused (OfBuild (Late task)))
-named_in (Done count) e = clash e
-named_in (Refused cause) e = let r = named_in_refusal cause e in (r.0, ap Refused r.1)
+pub named_in : (answer : Answer) → is_there (late_task answer) ≡ true → (task : ℕ) × (answer ≡ Err (OfBuild (Late task)))
+named_in (Ok count) e = clash e
+named_in (Err cause) e = let r = named_in_refusal cause e in (r.0, ap Err r.1)
 
 -- and the task is that one
-pub named_at : (answer : Answer) (task : ℕ) → late_task answer ≡ At task → answer ≡ Refused (OfBuild (Late task))
+pub named_at : (answer : Answer) (task : ℕ) → late_task answer ≡ Some task → answer ≡ Err (OfBuild (Late task))
 named_at answer task e =
     let is = named_in answer (ap is_there e) in
     let same : is.0 ≡ task = at_one is.0 task (sym (ap late_task is.1) ∙ e) in
-    is.1 ∙ ap (λ (t : ℕ). Refused (OfBuild (Late t))) same
+    is.1 ∙ ap (λ (t : ℕ). Err (OfBuild (Late t))) same
 
-named_is : (order build : List ℕ) (task : ℕ) → RefusedLate order build task → late_task (check_answer order build) ≡ At task
+named_is : (order build : List ℕ) (task : ℕ) → RefusedLate order build task → late_task (check_answer order build) ≡ Some task
 named_is order build task refused = ap late_task refused
 
 -- the script of the task which the check names
@@ -73,7 +72,7 @@ shows_the_named order build task refused = ap (λ (t : ℕ). script_showing (ord
 
 -- 64, then 12
 module _ (count : ℕ) (script : List Release) (room : ℕ) where
-  pub too_many : most_records < length script → first_broken count (show_rules script room) ≡ Refused (OfLate ManyRecords)
+  pub too_many : most_records < length script → first_broken count (show_rules script room) ≡ Err (OfLate ManyRecords)
   unfolding show_rules first_broken
   too_many more = rw (lt-leb (length script) most_records more)
 
@@ -81,10 +80,10 @@ module _ (count : ℕ) (script : List Release) (room : ℕ) where
   unfolding show_rules first_broken
   few_on few = rw (le-leb (length script) most_records few)
 
-  pub no_room : length script ≤ most_records → room < script_length 1 (length script) → first_broken count (show_rules script room) ≡ Refused (OfCall Output)
+  pub no_room : length script ≤ most_records → room < script_length 1 (length script) → first_broken count (show_rules script room) ≡ Err (OfCall Output)
   no_room few short = few_on few ∙ room_stop count _ room short
 
-  pub shown : length script ≤ most_records → script_length 1 (length script) ≤ room → first_broken count (show_rules script room) ≡ Done count
+  pub shown : length script ≤ most_records → script_length 1 (length script) ≤ room → first_broken count (show_rules script room) ≡ Ok count
   shown few fits = few_on few ∙ room_on count _ room fits
 
   pub show_tells : TestsTell (show_rules script room)
@@ -95,16 +94,16 @@ module _ (order build : List ℕ) (room : ℕ) where
   abbrev size : ℕ
   size = script_length 1 (length (shown_script order build))
 
-  pub order_stops : (cause : Refusal) → first_broken 0 (order_rules order) ≡ Refused cause → late_answer order build room ≡ Refused cause
+  pub order_stops : (cause : Refusal) → first_broken 0 (order_rules order) ≡ Err cause → late_answer order build room ≡ Err cause
   unfolding late_answer late_rules
   order_stops cause e = stop size (order_rules order) _ cause (any_count 0 size (order_rules order) cause e)
 
   -- 63
-  pub not_late : {count : ℕ} → first_broken 0 (order_rules order) ≡ Done count → late_task (check_answer order build) ≡ Nothing → late_answer order build room ≡ Refused (OfLate NotLate)
+  pub not_late : {count : ℕ} → first_broken 0 (order_rules order) ≡ Ok count → late_task (check_answer order build) ≡ None → late_answer order build room ≡ Err (OfLate NotLate)
   unfolding late_answer late_rules first_broken
   not_late read e = pass_on size (order_rules order) _ (done_pass 0 (order_rules order) read) ∙ rw e
 
-  pub late_on : {count : ℕ} (task : ℕ) → first_broken 0 (order_rules order) ≡ Done count → late_task (check_answer order build) ≡ At task
+  pub late_on : {count : ℕ} (task : ℕ) → first_broken 0 (order_rules order) ≡ Ok count → late_task (check_answer order build) ≡ Some task
       → late_answer order build room ≡ first_broken size (show_rules (shown_script order build) room)
   unfolding late_answer late_rules first_broken
   late_on task read e = pass_on size (order_rules order) _ (done_pass 0 (order_rules order) read) ∙ rw e

@@ -1,4 +1,5 @@
 -- 29 in the box: the script is legal and misses, as records and as bytes.
+use Rattle.std.specs.Prelude.{Ok}
 use mathlib.Core.Path.{◌≡◌, refl, sym, ap, ◌∙◌, subst, subst₂}
 use mathlib.Core.Bool.{Bool, true, false}
 use mathlib.Core.List.{List}
@@ -13,7 +14,6 @@ use Rattle.bits.specs.Layout.{FitIn}
 use Rattle.model.specs.declared.order.Order.{Order}
 use Rattle.model.specs.declared.build.Build.{Build}
 use Rattle.model.specs.declared.build.Release.{Release}
-use Rattle.model.specs.declared.answer.Answer.TheVariants.{Done}
 use Rattle.model.specs.Layouts.{release_record, script_length}
 use Rattle.model.specs.Limits.{home_of, most_records, cost}
 use Rattle.model.specs.Rules.{WithinLimits}
@@ -156,7 +156,7 @@ module _ (o : Order) (b : Build) (i : ℕ) (named : NamedLate o b i) where
 
 pub written_is_late : WrittenIsLate
 written_is_late order build output count after w =
-    let is = (shown_exactly order build output (Done count) after count w).0 refl in
+    let is = (shown_exactly order build output (Ok count) after count w).0 refl in
     let i = is.0.0 in
     let o = order_at order in
     let b = build_at build in

@@ -1,11 +1,11 @@
 -- Showing the late job answers and writes as specs/Claims.antt says.
+use Rattle.std.specs.Prelude.{Ok}
 use mathlib.Core.Path.{◌≡◌, sym, ap, ◌∙◌, subst}
 use mathlib.Core.List.{List, [], ◌∷◌, ◌++◌, append_assoc}
 use Prim.Native.Nat.{ℕ, ◌≤◌}
 use lib.ListN.{length}
 use borrow.Author.Tests.{leb-true}
-use Rattle.model.specs.declared.answer.Answer.{Answer}
-use Rattle.model.specs.declared.answer.Answer.TheVariants.{Done}
+use Rattle.model.specs.Kinds.{Answer}
 use Rattle.model.specs.declared.answer.Refusal.TheVariants.{OfLate}
 use Rattle.model.specs.declared.answer.LateCause.TheVariants.{NotLate, ManyRecords}
 use Rattle.model.specs.Answer.{output_after}
@@ -66,7 +66,7 @@ shown_exactly order build output answer after count w = (
       let task = is.0.0 in
       let passed = order_passes order build task is.0.1 in
       w.answered ∙ late_on order build (length output) task (pass_done 0 (order_rules order) passed) (ap late_task is.0.1)
-      ∙ shown (size order build) (shown_script order build) (length output) is.1 (subst (◌≤ length output) is.2 is.3) ∙ ap Done (sym is.2)),
+      ∙ shown (size order build) (shown_script order build) (length output) is.1 (subst (◌≤ length output) is.2 is.3) ∙ ap Ok (sym is.2)),
 )
 
 pub shows_only_front : ShowsOnlyFront

@@ -1,4 +1,5 @@
 -- The worst response of the test is exact; and where a window closes by H, so is 29.
+use Rattle.std.specs.Prelude.{Ok, Err}
 use mathlib.Core.Path.{◌≡◌, refl, subst}
 use mathlib.Core.List.{List}
 use Prim.Native.Nat.{ℕ, ◌+◌, ◌*◌, ◌<◌}
@@ -13,8 +14,8 @@ use Rattle.order.specs.Order.{order_at, order_rules}
 use Rattle.order.proofs.Rules.{order_tells}
 use Rattle.order.proofs.Reading.{within_limits}
 use Rattle.build.specs.Build.{build_at}
-use Rattle.demand.specs.declared.Verdict.{Verdict}
-use Rattle.demand.specs.declared.Verdict.TheVariants.{Passes, NoWindow, NoStart, TooLate}
+use Rattle.demand.specs.Verdict.{Verdict}
+use Rattle.demand.specs.declared.Failing.TheVariants.{NoWindow, NoStart, TooLate}
 use Rattle.demand.specs.Priority.{Members, members_of}
 use Rattle.demand.specs.Releases.{period_of, cost_of}
 use Rattle.demand.specs.Test.{verdict}
@@ -80,7 +81,7 @@ module _ (o : Order) (b : Build) (i : ℕ) (limits : WithinLimits o) (known : i 
   here = record { limits = limits; known = known; its_own = home_member b (home_of b i) i refl }
 
   -- a late member has a legal script that misses
-  late_misses : verdict o member i ≡ TooLate → NeverMisses o b i → ⊥
+  late_misses : verdict o member i ≡ (Err TooLate) → NeverMisses o b i → ⊥
   unfolding Finishes
   late_misses late never-misses =
       let shown = too_late_misses o member i here late in
@@ -92,10 +93,10 @@ module _ (o : Order) (b : Build) (i : ℕ) (limits : WithinLimits o) (known : i 
   never-in_time there never-misses = go (verdict o member i) refl
     where
       go : (v : Verdict) → verdict o member i ≡ v → InTime o member i
-      go (Passes worst) e = let p = ((every_verdict_means o member i limits known).passes worst).0 e in record { worst = worst; worst_is = passing_worst o member i worst p; at_most = p.in_time_lem }
-      go NoWindow e = absurd (omega (arith, (every_verdict_means o member i limits known).no_window.0 e there.0 there.1.from there.1.upto, there.1.met))
-      go NoStart e = absurd (no_start_never o member i limits known e)
-      go TooLate e = absurd (late_misses e never-misses)
+      go (Ok worst) e = let p = ((every_verdict_means o member i limits known).passes worst).0 e in record { worst = worst; worst_is = passing_worst o member i worst p; at_most = p.in_time_lem }
+      go (Err NoWindow) e = absurd (omega (arith, (every_verdict_means o member i limits known).no_window.0 e there.0 there.1.from there.1.upto, there.1.met))
+      go (Err NoStart) e = absurd (no_start_never o member i limits known e)
+      go (Err TooLate) e = absurd (late_misses e never-misses)
 
   in_time-never : TestedInTime o b i → NeverMisses o b i
   unfolding Finishes

@@ -1,4 +1,5 @@
 -- What 29 says of an order and a build: all rules before it hold, and the test of the named task says late.
+use Rattle.std.specs.Prelude.{Some, None, Option, Ok, Err}
 use mathlib.Core.Path.{◌≡◌, refl, sym, ap, ◌∙◌, subst}
 use mathlib.Core.List.{List, ◌++◌}
 use mathlib.Core.Logic.{⊎_elim}
@@ -18,10 +19,8 @@ use Rattle.order.specs.Order.{order_at, header_of, header_rules, spare_rules, la
 use Rattle.order.proofs.Rules.{order_tells}
 use Rattle.order.proofs.Reading.{within_limits}
 use Rattle.build.specs.Build.{build_at}
-use Rattle.search.specs.declared.Found.{Found}
-use Rattle.search.specs.declared.Found.TheVariants.{At, Nothing}
-use Rattle.demand.specs.declared.Verdict.{Verdict}
-use Rattle.demand.specs.declared.Verdict.TheVariants.{Passes, NoWindow, NoStart, TooLate}
+use Rattle.demand.specs.Verdict.{Verdict}
+use Rattle.demand.specs.declared.Failing.TheVariants.{NoWindow, NoStart, TooLate}
 use Rattle.demand.specs.Priority.{Members, members_of}
 use Rattle.demand.specs.Test.{verdict}
 use Rattle.demand.proofs.Meaning.{every_verdict_means, no_start_never}
@@ -39,13 +38,13 @@ use Rattle.late.specs.Shown.{late_in_refusal, RefusedLate}
 
 -- a refusal that names no late task
 abbrev NotLate : Refusal → Type 0
-NotLate refusal = late_in_refusal refusal ≡ Nothing
+NotLate refusal = late_in_refusal refusal ≡ None
 
 -- such rules are kept where 29 comes after them
 past : (i : ℕ) (a b : List Rule) → EachRefuses NotLate a → FirstOffence (a ++ b) (OfBuild (Late i)) → AllKept a × FirstOffence b (OfBuild (Late i))
 past i a b each offence =
     ⊎_elim
-    (λ (front : FirstOffence a (OfBuild (Late i))). let e : ◌≡◌ {A = Found} (At i) Nothing = offence_of NotLate a (OfBuild (Late i)) each front in let z : ◌≡◌ {A = ℕ} 0 1 = cc in absurd (omega arith))
+    (λ (front : FirstOffence a (OfBuild (Late i))). let e : ◌≡◌ {A = Option ℕ} (Some i) None = offence_of NotLate a (OfBuild (Late i)) each front in let z : ◌≡◌ {A = ℕ} 0 1 = cc in absurd (omega arith))
     (λ (rest : AllKept a × FirstOffence b (OfBuild (Late i))). rest)
     (offence_cut a b (OfBuild (Late i)) offence)
 
@@ -75,7 +74,7 @@ unfolding rank_rules EachRefuses
 ranks_not_late o b = each_joined NotLate _ o.tasks (λ i. (refl, tt))
 
 never_late : {A : Type 0} (i : ℕ) (refusal : Refusal) → NotLate refusal → refusal ≡ OfBuild (Late i) → A
-never_late i refusal not_late e = let same : ◌≡◌ {A = Found} Nothing (At i) = sym not_late ∙ ap late_in_refusal e in let z : ◌≡◌ {A = ℕ} 0 1 = cc in absurd (omega arith)
+never_late i refusal not_late e = let same : ◌≡◌ {A = Option ℕ} None (Some i) = sym not_late ∙ ap late_in_refusal e in let z : ◌≡◌ {A = ℕ} 0 1 = cc in absurd (omega arith)
 
 -- 27 to 30 of a task refuse 29 for that task, where it has a window and is not in time
 test_late : (o : Order) (b : Build) (j i : ℕ) → FirstOffence (task_test_rules o b j) (OfBuild (Late i))
@@ -96,14 +95,14 @@ test_late o b j i offence =
     offence
 
 -- a member with a window that is not in time is late
-late_verdict : (o : Order) (member : Members) (i : ℕ) → WithinLimits o → i < o.tasks → WindowThere o member i → (InTime o member i → ⊥) → verdict o member i ≡ TooLate
+late_verdict : (o : Order) (member : Members) (i : ℕ) → WithinLimits o → i < o.tasks → WindowThere o member i → (InTime o member i → ⊥) → verdict o member i ≡ (Err TooLate)
 late_verdict o member i limits known there out-of-time = go (verdict o member i) refl
   where
-    go : (v : Verdict) → verdict o member i ≡ v → verdict o member i ≡ TooLate
-    go (Passes worst) e = let p = ((every_verdict_means o member i limits known).passes worst).0 e in absurd (out-of-time (record { worst = worst; worst_is = passing_worst o member i worst p; at_most = p.in_time_lem }))
-    go NoWindow e = absurd (omega (arith, (every_verdict_means o member i limits known).no_window.0 e there.0 there.1.from there.1.upto, there.1.met))
-    go NoStart e = absurd (no_start_never o member i limits known e)
-    go TooLate e = e
+    go : (v : Verdict) → verdict o member i ≡ v → verdict o member i ≡ (Err TooLate)
+    go (Ok worst) e = let p = ((every_verdict_means o member i limits known).passes worst).0 e in absurd (out-of-time (record { worst = worst; worst_is = passing_worst o member i worst p; at_most = p.in_time_lem }))
+    go (Err NoWindow) e = absurd (omega (arith, (every_verdict_means o member i limits known).no_window.0 e there.0 there.1.from there.1.upto, there.1.met))
+    go (Err NoStart) e = absurd (no_start_never o member i limits known e)
+    go (Err TooLate) e = e
 
 -- 20 to 25 kept: partitions have small numbers
 homes_kept : (o : Order) (build : List ℕ) → AllKept (build_layout_rules o build) → AllKept (width_rules o (build_at build)) → HomesFew o (build_at build)

@@ -1,4 +1,5 @@
 -- The parts of `late`, one after the other: what each hands on, and what is answered and left.
+use Rattle.std.specs.Prelude.{Ok, Err, Some, None}
 use mathlib.Core.Path.{◌≡◌, sym, ap, ◌∙◌, subst₂}
 use mathlib.Core.List.{List}
 use Prim.Native.Nat.{ℕ, ◌≤◌}
@@ -7,8 +8,7 @@ use lib.ListN.{length}
 use Rattle.model.specs.declared.order.Order.{Order}
 use Rattle.model.specs.declared.build.Build.{Build}
 use Rattle.model.specs.declared.build.Release.{Release}
-use Rattle.model.specs.declared.answer.Answer.{Answer}
-use Rattle.model.specs.declared.answer.Answer.TheVariants.{Done, Refused}
+use Rattle.model.specs.Kinds.{Answer}
 use Rattle.model.specs.declared.answer.Refusal.{Refusal}
 use Rattle.model.specs.declared.answer.Refusal.TheVariants.{OfLate}
 use Rattle.model.specs.declared.answer.LateCause.TheVariants.{NotLate}
@@ -23,7 +23,6 @@ use Rattle.build.specs.declared.BuildHeader.{BuildHeader}
 use Rattle.build.specs.declared.BuildTaken.{BuildTaken}
 use Rattle.build.specs.Build.{build_header_of}
 use Rattle.build.specs.Taken.{TakesBuild}
-use Rattle.search.specs.declared.Found.TheVariants.{At, Nothing}
 use Rattle.inspect.specs.Rules.{check_answer, Checks}
 use Rattle.inspect.proofs.Answers.{read, same_order}
 use Rattle.inspect.proofs.Turn.{header_passed}
@@ -34,22 +33,22 @@ use Rattle.late.proofs.Named.{layout_passes, named_late}
 use Rattle.late.proofs.Answers.{named_at, shows_the_named, order_stops, not_late, late_on}
 
 module _ (order build : List ℕ) (reading : Reading) (is : Reads order reading) where
-  pub shows_order : (output : List ℕ) {cause : Refusal} → reading.answer ≡ Refused cause → ShowsLate order build output (Refused cause) output
+  pub shows_order : (output : List ℕ) {cause : Refusal} → reading.answer ≡ Err cause → ShowsLate order build output (Err cause) output
   shows_order output {cause} e =
       record {
         answered = sym (order_stops order build (length output) cause (read order build reading is ∙ e));
         written = sym (after_refused cause (script_bytes (shown_script order build)) output);
       }
 
-  module _ {count : ℕ} (done : reading.answer ≡ Done count) (checked : Answer) (checks : Checks order build checked) where
-    pub shows_not_late : (output : List ℕ) → late_task checked ≡ Nothing → ShowsLate order build output (Refused (OfLate NotLate)) output
+  module _ {count : ℕ} (done : reading.answer ≡ Ok count) (checked : Answer) (checks : Checks order build checked) where
+    pub shows_not_late : (output : List ℕ) → late_task checked ≡ None → ShowsLate order build output (Err (OfLate NotLate)) output
     shows_not_late output none =
         record {
           answered = sym (not_late order build (length output) (read order build reading is ∙ done) (ap late_task (sym checks) ∙ none));
           written = sym (after_refused (OfLate NotLate) (script_bytes (shown_script order build)) output);
         }
 
-    module _ (task : ℕ) (at : late_task checked ≡ At task) where
+    module _ (task : ℕ) (at : late_task checked ≡ Some task) where
       refused : RefusedLate order build task
       refused = named_at (check_answer order build) task (ap late_task (sym checks) ∙ at)
 

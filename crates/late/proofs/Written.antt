@@ -1,4 +1,5 @@
 -- The script of the times that are found is the one that shows the task late.
+use Rattle.std.specs.Prelude.{Ok, Err}
 use mathlib.Core.Path.{◌≡◌, sym, ap, ◌∙◌}
 use mathlib.Core.List.{List, ◌++◌}
 use Prim.Native.Nat.{ℕ, suc, ◌+◌, ◌-◌, ◌≤◌, ◌<◌}
@@ -8,7 +9,6 @@ use borrow.Author.Tests.{ltb-true}
 use Rattle.model.specs.declared.order.Order.{Order}
 use Rattle.model.specs.declared.build.Build.{Build}
 use Rattle.model.specs.declared.build.Release.{Release}
-use Rattle.model.specs.declared.answer.Answer.TheVariants.{Done, Refused}
 use Rattle.model.specs.declared.answer.Refusal.TheVariants.{OfCall, OfLate}
 use Rattle.model.specs.declared.answer.CallCause.TheVariants.{Output}
 use Rattle.model.specs.declared.answer.LateCause.TheVariants.{ManyRecords}
@@ -62,7 +62,7 @@ module _ (o : Order) (b : Build) (i : ℕ) (named : NamedLate o b i) (times : Ti
     records_are : records ≡ length (script_showing o b i)
     records_are = records_listed ∙ ap length script_is
 
-    pub shows_many : (output : List ℕ) → most_records < records → ShowsScript o b i output (Refused (OfLate ManyRecords)) output
+    pub shows_many : (output : List ℕ) → most_records < records → ShowsScript o b i output (Err (OfLate ManyRecords)) output
     shows_many output more =
         record {
           answers = sym (too_many _ (script_showing o b i) (length output) (omega (arith, more, records_are)));
@@ -70,7 +70,7 @@ module _ (o : Order) (b : Build) (i : ℕ) (named : NamedLate o b i) (times : Ti
         }
 
     module _ (output : List ℕ) (few : records ≤ most_records) where
-      pub shows_no_room : length output < script_length 1 records → ShowsScript o b i output (Refused (OfCall Output)) output
+      pub shows_no_room : length output < script_length 1 records → ShowsScript o b i output (Err (OfCall Output)) output
       shows_no_room short =
           record {
             answers = sym (no_room _ (script_showing o b i) (length output) (omega (arith, few, records_are)) (omega (arith, short, records_are)));
@@ -78,10 +78,10 @@ module _ (o : Order) (b : Build) (i : ℕ) (named : NamedLate o b i) (times : Ti
           }
 
       pub shows_bytes : (after : List ℕ) → script_length 1 records ≤ length output → after ≡ script_bytes (coming_script o times) ++ drop (script_length 1 records) output
-          → ShowsScript o b i output (Done (script_length 1 records)) after
+          → ShowsScript o b i output (Ok (script_length 1 records)) after
       shows_bytes after room e =
           record {
-            answers = ap (λ (n : ℕ). Done (script_length 1 n)) records_are
+            answers = ap (λ (n : ℕ). Ok (script_length 1 n)) records_are
                 ∙ sym (shown _ (script_showing o b i) (length output) (omega (arith, few, records_are)) (omega (arith, room, records_are)));
             leaves = e ∙ ap (λ (script : List Release). script_bytes script ++ drop (script_length 1 records) output) script_is
                 ∙ sym (after_done (script_length 1 records) (script_bytes (script_showing o b i)) output);

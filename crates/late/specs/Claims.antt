@@ -1,9 +1,8 @@
 -- What showing the late job promises beyond its definition; proved in proofs/.
-use Rattle.std.specs.Prelude.{ℕ, ◌+◌, ◌≤◌, ◌<◌, ◌≡◌, List, ◌++◌, ◌↔◌, ◌≢◌, length, take, drop}
+use Rattle.std.specs.Prelude.{ℕ, ◌+◌, ◌≤◌, ◌<◌, ◌≡◌, List, ◌++◌, ◌↔◌, ◌≢◌, length, take, drop, Ok}
 use Rattle.model.specs.declared.order.Order.{Order}
 use Rattle.model.specs.declared.build.Build.{Build}
-use Rattle.model.specs.declared.answer.Answer.{Answer}
-use Rattle.model.specs.declared.answer.Answer.TheVariants.{Done}
+use Rattle.model.specs.Kinds.{Answer}
 use Rattle.model.specs.Answer.{OnlyCountedFront}
 use Rattle.model.specs.Layouts.{script_length}
 use Rattle.model.specs.Limits.{most_records}
@@ -21,7 +20,7 @@ use Rattle.late.specs.Shown.{RefusedLate, script_showing, shown_script, late_rul
 -- a script is shown exactly for a build that the check refuses 29, where it has few enough records and room
 abbrev pub ShownExactly : Type 0
 ShownExactly = (order build output : List ℕ) (answer : Answer) (after : List ℕ) (count : ℕ) → ShowsLate order build output answer after
-    → (answer ≡ Done count)
+    → (answer ≡ Ok count)
     ↔ (((task : ℕ) × RefusedLate order build task) × (length (shown_script order build) ≤ most_records) × (count ≡ script_length 1 (length (shown_script order build)))
     × (count ≤ length output) × (after ≡ script_bytes (shown_script order build) ++ drop count output))
 
@@ -71,5 +70,5 @@ pub record LateInBytes (o : Order) (b : Build) (task : ℕ) (s : List ℕ) : Typ
 
 -- what is written is such bytes
 abbrev pub WrittenIsLate : Type 0
-WrittenIsLate = (order build output : List ℕ) (count : ℕ) (after : List ℕ) → ShowsLate order build output (Done count) after
+WrittenIsLate = (order build output : List ℕ) (count : ℕ) (after : List ℕ) → ShowsLate order build output (Ok count) after
     → (task : ℕ) × (RefusedLate order build task) × LateInBytes (order_at order) (build_at build) task (take count after)

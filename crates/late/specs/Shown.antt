@@ -1,10 +1,9 @@
 -- "Refusals: after the order's 1 to 10, 63 the build isn't refused 29, 64 more than 1,024 records, 12 output too short.", and the script's bytes.
-use Rattle.std.specs.Prelude.{ℕ, ◌≡◌, List, ◌∷◌, ◌++◌, length}
+use Rattle.std.specs.Prelude.{ℕ, ◌≡◌, List, ◌∷◌, ◌++◌, length, Ok, Err, Some, None, Option}
 use Rattle.model.specs.declared.order.Order.{Order}
 use Rattle.model.specs.declared.build.Build.{Build}
 use Rattle.model.specs.declared.build.Release.{Release}
-use Rattle.model.specs.declared.answer.Answer.{Answer}
-use Rattle.model.specs.declared.answer.Answer.TheVariants.{Done, Refused}
+use Rattle.model.specs.Kinds.{Answer}
 use Rattle.model.specs.declared.answer.Refusal.{Refusal}
 use Rattle.model.specs.declared.answer.Refusal.TheVariants.{OfOrder, OfCall, OfBuild, OfScript, OfText, OfList, OfLate}
 use Rattle.model.specs.declared.answer.BuildCause.{BuildCause}
@@ -16,8 +15,6 @@ use Rattle.model.specs.Limits.{most_records, home_of}
 use Rattle.model.specs.Rules.{Rule, rule, at_most, first_broken, room_rules}
 use Rattle.order.specs.Order.{order_at, order_rules}
 use Rattle.build.specs.Build.{build_at}
-use Rattle.search.specs.declared.Found.{Found}
-use Rattle.search.specs.declared.Found.TheVariants.{At, Nothing}
 use Rattle.search.specs.Smallest.{number_found}
 use Rattle.verdict.specs.Tested.{is_there}
 use Rattle.demand.specs.Priority.{members_of}
@@ -26,35 +23,35 @@ use Rattle.script.specs.Script.{script_bytes}
 use Rattle.critical.specs.Late.{late_script}
 
 -- the task that an answer names late, if it is 29
-abbrev pub late_in_build : BuildCause → Found
-late_in_build BuildShort = Nothing
-late_in_build BuildMismatch = Nothing
-late_in_build BuildLength = Nothing
-late_in_build BuildSpare = Nothing
-late_in_build (PartitionPlace partition) = Nothing
-late_in_build (TaskPartition task) = Nothing
-late_in_build (Rank task) = Nothing
-late_in_build (Window task) = Nothing
-late_in_build (Start task) = Nothing
-late_in_build (Late task) = At task
-late_in_build (Response task) = Nothing
+abbrev pub late_in_build : BuildCause → Option ℕ
+late_in_build BuildShort = None
+late_in_build BuildMismatch = None
+late_in_build BuildLength = None
+late_in_build BuildSpare = None
+late_in_build (PartitionPlace partition) = None
+late_in_build (TaskPartition task) = None
+late_in_build (Rank task) = None
+late_in_build (Window task) = None
+late_in_build (Start task) = None
+late_in_build (Late task) = Some task
+late_in_build (Response task) = None
 
-abbrev pub late_in_refusal : Refusal → Found
-late_in_refusal (OfOrder cause) = Nothing
-late_in_refusal (OfCall cause) = Nothing
+abbrev pub late_in_refusal : Refusal → Option ℕ
+late_in_refusal (OfOrder cause) = None
+late_in_refusal (OfCall cause) = None
 late_in_refusal (OfBuild cause) = late_in_build cause
-late_in_refusal (OfScript cause) = Nothing
-late_in_refusal (OfText cause) = Nothing
-late_in_refusal (OfList cause) = Nothing
-late_in_refusal (OfLate cause) = Nothing
+late_in_refusal (OfScript cause) = None
+late_in_refusal (OfText cause) = None
+late_in_refusal (OfList cause) = None
+late_in_refusal (OfLate cause) = None
 
-abbrev pub late_task : Answer → Found
-late_task (Done count) = Nothing
-late_task (Refused cause) = late_in_refusal cause
+abbrev pub late_task : Answer → Option ℕ
+late_task (Ok count) = None
+late_task (Err cause) = late_in_refusal cause
 
 -- the check's one answer is 29, for this task
 abbrev pub RefusedLate : (order build : List ℕ) → (task : ℕ) → Type 0
-RefusedLate order build task = check_answer order build ≡ Refused (OfBuild (Late task))
+RefusedLate order build task = check_answer order build ≡ Err (OfBuild (Late task))
 
 -- the script that shows a task of a build late
 abbrev pub script_showing : Order → Build → (task : ℕ) → List Release

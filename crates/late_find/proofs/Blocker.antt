@@ -1,4 +1,5 @@
 -- The longest of the lower members gives B, and where B is over 0 it is the blocker.
+use Rattle.std.specs.Prelude.{Some, Option}
 use mathlib.Core.Path.{◌≡◌, sym, ap, ◌∙◌}
 use mathlib.Core.Bool.{Bool, true, false, ◌&&◌}
 use mathlib.Core.List.{List}
@@ -14,8 +15,6 @@ use Rattle.laws.proofs.Every.{clash, and_both, both_and}
 use Rattle.model.specs.declared.order.Order.{Order}
 use Rattle.model.specs.declared.build.Build.{Build}
 use Rattle.model.specs.Rules.{WithinLimits}
-use Rattle.search.specs.declared.Found.{Found}
-use Rattle.search.specs.declared.Found.TheVariants.{At}
 use Rattle.search.proofs.Smallest.{smallest_at}
 use Rattle.demand.specs.Priority.{lower}
 use Rattle.demand.specs.Releases.{cost_of}
@@ -62,7 +61,7 @@ module _ (o : Order) (b : Build) (limits : WithinLimits o) (i : ℕ) (mine : i <
     its_lower : lower o (besides b i) i r.number ≡ true
     its_lower = sym (lower_is r.number its_own.0) ∙ its_own.1
 
-    lowest_number : longest_lower o (besides b i) i ≡ At r.number
+    lowest_number : longest_lower o (besides b i) i ≡ Some r.number
     unfolding longest_lower
     lowest_number =
         smallest_at _ 0 (o.tasks - 1) r.number (omega arith) (omega (arith, its_own.0))
@@ -73,7 +72,7 @@ module _ (o : Order) (b : Build) (limits : WithinLimits o) (i : ℕ) (mine : i <
 
     blocks_itself : (j : ℕ) → blocks o (besides b i) i j ≡ eqb j r.number
     unfolding blocks
-    blocks_itself j = ap (◌&& is_at o (besides b i) i (longest_lower o (besides b i) i) j) (lt-ltb 0 B some) ∙ ap (λ (f : Found). is_at o (besides b i) i f j) lowest_number
+    blocks_itself j = ap (◌&& is_at o (besides b i) i (longest_lower o (besides b i) i) j) (lt-ltb 0 B some) ∙ ap (λ (f : Option ℕ). is_at o (besides b i) i f j) lowest_number
 
   blocks_none : B ≤ 0 → (j : ℕ) → blocks o (besides b i) i j ≡ false
   unfolding blocks

@@ -1,4 +1,5 @@
 -- The named task's jobs, one after the other: what the searches' answers say of the first late one.
+use Rattle.std.specs.Prelude.{Some, None}
 use mathlib.Core.Path.{◌≡◌, sym, subst}
 use Prim.Native.Nat.{ℕ, ◌+◌, ◌-◌, ◌*◌, ◌≤◌, ◌<◌}
 use native.Mathlib.Nat.{le_trans, mul-le-mul_left, mul-le-mul_right, add-mul, one-mul, mul-one}
@@ -7,7 +8,6 @@ use native.Mathlib.Omega.{arith}
 use Rattle.model.specs.declared.order.Task.{Task}
 use Rattle.model.specs.Limits.{horizon, cost}
 use Rattle.model.specs.Rules.{Sized}
-use Rattle.search.specs.declared.Found.TheVariants.{At, Nothing}
 use Rattle.demand.specs.Meaning.{FirstMetAt}
 use Rattle.demand.specs.Over.{start_over, job_base}
 use Rattle.demand.proofs.FirstMet.{met_one}
@@ -28,16 +28,16 @@ module _ (work : ℕ → ℕ) (base : ℕ) where
   starts_later from start unmet is = elim (dec_le from start) [ yes le ↦ le | no gt ↦ absurd (omega (arith, unmet start (omega (arith, gt)), is.met)) ]
 
   -- what was found is the start, and no later than any
-  pub start_found : (limit start found : ℕ) → FirstMetAt (start_over work base) 0 start → met_by work (base + 1) limit ≡ At found → FirstMetAt (start_over work base) 0 found
+  pub start_found : (limit start found : ℕ) → FirstMetAt (start_over work base) 0 start → met_by work (base + 1) limit ≡ Some found → FirstMetAt (start_over work base) 0 found
   unfolding start_over
   start_found limit start found is at =
-      let m = said.met_says work (base + 1) limit (At found) at in
+      let m = said.met_says work (base + 1) limit (Some found) at in
       record { from = omega arith; upto = omega (arith, starts_later found start m.unmet is, is.upto); met = omega (arith, m.met); earlier = λ s a l. omega (arith, m.unmet s l) }
 
   -- a search up to the horizon finds it
-  pub start_there : (start : ℕ) → FirstMetAt (start_over work base) 0 start → met_by work (base + 1) horizon ≡ Nothing → ⊥
+  pub start_there : (start : ℕ) → FirstMetAt (start_over work base) 0 start → met_by work (base + 1) horizon ≡ None → ⊥
   start_there start is none =
-      omega (arith, starts_later (horizon + 1) start (said.met_says work (base + 1) horizon Nothing none) is, is.upto)
+      omega (arith, starts_later (horizon + 1) start (said.met_says work (base + 1) horizon None none) is, is.upto)
 
   -- what is unmet over a base stays so over the next, up to the job's end
   unmet_next : Grows work → (C start : ℕ) → FirstMetAt (start_over work base) 0 start → UnmetBelow work (base + C + 1) (start + C)
@@ -86,10 +86,10 @@ module _ (work : ℕ → ℕ) (B : ℕ) (task : Task) where
     as_job w is = subst (λ (x : ℕ). FirstMetAt (start_over work x) 0 w) so_far.base_is is
 
     -- none by the last tick from which it would end in time
-    module _ (none : met_by work (base + 1) (release + task.deadline - cost task) ≡ Nothing) where
+    module _ (none : met_by work (base + 1) (release + task.deadline - cost task) ≡ None) where
       past_due : (w : ℕ) → FirstMetAt (start_over work base) 0 w → release + task.deadline - cost task + 1 ≤ w
       past_due w is =
-          starts_later work base (release + task.deadline - cost task + 1) w (said.met_says work (base + 1) (release + task.deadline - cost task) Nothing none) is
+          starts_later work base (release + task.deadline - cost task + 1) w (said.met_says work (base + 1) (release + task.deadline - cost task) None none) is
 
       pub starts_past : StartsFrom work base (release + task.deadline - cost task + 1)
       starts_past = record { start = starts.0; starts = starts.1; not_before = past_due starts.0 starts.1 }
@@ -99,7 +99,7 @@ module _ (work : ℕ → ℕ) (B : ℕ) (task : Task) where
           record { starts = as_job w is; late = omega (arith, past_due w is, so_far.release_is, sized.cost_most); earlier = so_far.earlier }
 
     -- one by then: the next job follows
-    module _ (grows : Grows work) (start : ℕ) (at-start : met_by work (base + 1) (release + task.deadline - cost task) ≡ At start) where
+    module _ (grows : Grows work) (start : ℕ) (at-start : met_by work (base + 1) (release + task.deadline - cost task) ≡ Some start) where
       is_start : FirstMetAt (start_over work base) 0 start
       is_start = start_found work base (release + task.deadline - cost task) starts.0 start starts.1 at-start
 
@@ -120,4 +120,4 @@ module _ (work : ℕ → ℕ) (B : ℕ) (task : Task) where
           }
         where
           in_time_lem : start + cost task ≤ number * task.period + task.deadline
-          in_time_lem = omega (arith, (said.met_says work (base + 1) (release + task.deadline - cost task) (At start) at-start).upto, so_far.release_is, sized.cost_most)
+          in_time_lem = omega (arith, (said.met_says work (base + 1) (release + task.deadline - cost task) (Some start) at-start).upto, so_far.release_is, sized.cost_most)

@@ -1,4 +1,5 @@
 -- The named task is late, and the job that was found is its first late one.
+use Rattle.std.specs.Prelude.{Some, Option, Err}
 use mathlib.Core.Path.{◌≡◌, sym, ap, ◌∙◌, subst}
 use Prim.Native.Nat.{ℕ, ◌+◌, ◌-◌, ◌*◌, ◌≤◌, ◌<◌}
 use native.Mathlib.Nat.{mul-le-mul_left, mul-one}
@@ -7,11 +8,9 @@ use borrow.Author.Tests.{lt-ltb, le-ltb}
 use Rattle.model.specs.declared.order.Order.{Order}
 use Rattle.model.specs.Limits.{horizon, task_of}
 use Rattle.model.specs.Rules.{WithinLimits}
-use Rattle.search.specs.declared.Found.{Found}
-use Rattle.search.specs.declared.Found.TheVariants.{At}
 use Rattle.search.specs.Smallest.{number_found}
 use Rattle.search.proofs.Smallest.{smallest_at}
-use Rattle.demand.specs.declared.Verdict.TheVariants.{TooLate}
+use Rattle.demand.specs.declared.Failing.TheVariants.{TooLate}
 use Rattle.demand.specs.Priority.{Members, deadline_of}
 use Rattle.demand.specs.Releases.{period_of, cost_of}
 use Rattle.demand.specs.Test.{response_from, blocking, higher_work, start_demand, start, response, verdict}
@@ -27,7 +26,7 @@ module _ (o : Order) (member : Members) (i : ℕ) (limits : WithinLimits o) (min
   Starts = JobStarts (higher_work o member i) (blocking o member i) (task_of o i)
 
   -- "late", over the higher members' work
-  pub late_over : verdict o member i ≡ TooLate → LateOver (higher_work o member i) (blocking o member i) (task_of o i)
+  pub late_over : verdict o member i ≡ (Err TooLate) → LateOver (higher_work o member i) (blocking o member i) (task_of o i)
   late_over says =
       let is = (every_verdict_means o member i limits mine).late.0 says in
       let over : (q w : ℕ) → FirstMetAt (start_demand o member i q) 0 w → Starts q w = λ q w starts. subst (λ (f : ℕ → ℕ). FirstMetAt f 0 w) (start_over_lem o member i limits q) starts in
@@ -39,13 +38,13 @@ module _ (o : Order) (member : Members) (i : ℕ) (limits : WithinLimits o) (min
         late = (is.late.0, is.late.1, (it.1.start, over is.late.0 it.1.start it.1.start_is, omega (arith, it.1.response_is, it.2)));
       }
 
-  start_is : (q w : ℕ) → Starts q w → start o member i q ≡ At w
+  start_is : (q w : ℕ) → Starts q w → start o member i q ≡ Some w
   unfolding start
   start_is q w starts = met_at (start_demand o member i q) 0 w (subst (λ (f : ℕ → ℕ). FirstMetAt f 0 w) (sym (start_over_lem o member i limits q)) starts)
 
-  response_is : (q w : ℕ) → Starts q w → response o member i q ≡ At (w + cost_of o i - q * period_of o i)
+  response_is : (q w : ℕ) → Starts q w → response o member i q ≡ Some (w + cost_of o i - q * period_of o i)
   unfolding response
-  response_is q w starts = ap (λ (f : Found). response_from f (cost_of o i) (q * period_of o i)) (start_is q w starts)
+  response_is q w starts = ap (λ (f : Option ℕ). response_from f (cost_of o i) (q * period_of o i)) (start_is q w starts)
 
   module _ (q w : ℕ) (first : FirstLateOver (higher_work o member i) (blocking o member i) (task_of o i) q w) where
     -- it is released and starts by the horizon

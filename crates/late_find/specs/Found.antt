@@ -1,5 +1,5 @@
 -- What the search for the late script's numbers gives. Inner definitions; the pattern and the first late job are `critical`'s.
-use Rattle.std.specs.Prelude.{ℕ, ◌+◌, ◌*◌, ◌≤◌, ◌<◌, ◌≡◌, Bool, true, false, ◌&&◌, List, ltb, eqb, length, get_or}
+use Rattle.std.specs.Prelude.{ℕ, ◌+◌, ◌*◌, ◌≤◌, ◌<◌, ◌≡◌, Bool, true, false, ◌&&◌, List, ltb, eqb, length, get_or, Err}
 use Rattle.laws.specs.Choice.{pick}
 use Rattle.laws.specs.Sums.{only, sum, largest}
 use Rattle.model.specs.declared.order.Task.{Task}
@@ -7,7 +7,7 @@ use Rattle.model.specs.declared.order.Order.{Order}
 use Rattle.model.specs.declared.build.Build.{Build}
 use Rattle.model.specs.Limits.{most_tasks, home_of, cost}
 use Rattle.model.specs.Rules.{WithinLimits}
-use Rattle.demand.specs.declared.Verdict.TheVariants.{TooLate}
+use Rattle.demand.specs.declared.Failing.TheVariants.{TooLate}
 use Rattle.demand.specs.Priority.{Members, members_of, deadline_of}
 use Rattle.demand.specs.Test.{verdict}
 use Rattle.demand.specs.Meaning.{FirstMetAt}
@@ -91,7 +91,7 @@ pub record NamedLate (o : Order) (b : Build) (i : ℕ) : Type 0 where
   pub limits : WithinLimits o
   pub homes : HomesFew o b
   pub known : i < o.tasks
-  pub late : verdict o (besides b i) i ≡ TooLate
+  pub late : verdict o (besides b i) i ≡ (Err TooLate)
 
 -- the times are those of the pattern that shows it
 pub record LateTimes (o : Order) (b : Build) (i : ℕ) (times : Times) : Type 0 where

@@ -13,7 +13,6 @@ ghost use Rattle.late_find.specs.Found.{KeysByNumber, above, LongestBelow, Highe
 use asked::{COST, ROWS};
 use comings_out::{NEVER, Times};
 use model::{Build, Order, Task};
-use search::Found;
 
 // A lower member with the largest C: its number, and its C, which is 0 if there is none.
 #[derive(Clone, Copy)]
@@ -132,8 +131,8 @@ fn start_from(rows: &[u32; ROWS], count: usize, base: u32, from: u32) -> u32
     let search = asked::met(rows, count, model::wide(base) + 1, from, Task::HORIZON);
     let found = search.found;
     match found {
-        Found::At(start) => start as u32,
-        Found::Nothing => 0,
+        Some(start) => start as u32,
+        None => 0,
     }
 }
 
@@ -150,7 +149,7 @@ fn late_job(rows: &[u32; ROWS], count: usize, blocking: u32, task: Task) -> Late
         let due = release + task.deadline - task.cost();
         let search = asked::met(rows, count, model::wide(base) + 1, from, due);
         let found = search.found;
-        let Found::At(start) = found else {
+        let Some(start) = found else {
             return LateJob {
                 number,
                 start: start_from(rows, count, base, due + 1),

@@ -1,4 +1,5 @@
 -- The items of a text taken one by one: what is left of the answer and of the set.
+use Rattle.std.specs.Prelude.{Ok, Err}
 use mathlib.Core.Path.{◌≡◌, refl, sym, ap, ◌∙◌}
 use mathlib.Core.Bool.{Bool, false}
 use mathlib.Core.List.{List, [], ◌∷◌}
@@ -10,8 +11,7 @@ use lib.Dec.{leb, ltb}
 use borrow.Author.Tests.{leb-true, le-leb, lt-leb, ltb-true, lt-ltb}
 use Rattle.laws.specs.Choice.{pick, within}
 use Rattle.laws.proofs.Choice.{same_test}
-use Rattle.model.specs.declared.answer.Answer.{Answer}
-use Rattle.model.specs.declared.answer.Answer.TheVariants.{Done, Refused}
+use Rattle.model.specs.Kinds.{Answer}
 use Rattle.model.specs.declared.answer.Refusal.{Refusal}
 use Rattle.model.specs.declared.answer.Refusal.TheVariants.{OfList}
 use Rattle.model.specs.declared.answer.ListCause.TheVariants.{ListLength}
@@ -46,22 +46,22 @@ taken_span item ends taken held =
     item_span item held.right ∙ ap (λ (first : ℕ). span first (item.last + 1 - first)) (sym held.first_is) ∙ ap (λ (last : ℕ). span taken.first (last + 1 - taken.first)) (sym held.last_is)
 
 -- the first item decides where it is refused, and is passed over where it is not
-first_stops : (at n : ℕ) (s : List ℕ) (refusal : Refusal) → count is_comma s ≡ n → first_broken 0 (item_rules at (up_to is_comma s)) ≡ Refused refusal → first_broken 0 (items_rules at n s) ≡ Refused refusal
+first_stops : (at n : ℕ) (s : List ℕ) (refusal : Refusal) → count is_comma s ≡ n → first_broken 0 (item_rules at (up_to is_comma s)) ≡ Err refusal → first_broken 0 (items_rules at n s) ≡ Err refusal
 unfolding items_rules
 first_stops at zero s refusal is e = ap (λ (item : List ℕ). first_broken 0 (item_rules at item)) (sym (up_to_none is_comma s is)) ∙ e
 first_stops at (suc n) s refusal is e = stop 0 (item_rules at (up_to is_comma s)) _ refusal e
 
-first_passes : (at n : ℕ) (s : List ℕ) (count : ℕ) → first_broken 0 (item_rules at (up_to is_comma s)) ≡ Done count
+first_passes : (at n : ℕ) (s : List ℕ) (count : ℕ) → first_broken 0 (item_rules at (up_to is_comma s)) ≡ Ok count
     → first_broken 0 (items_rules at (suc n) s) ≡ first_broken 0 (items_rules (at + suc (length (up_to is_comma s))) n (behind is_comma s))
 unfolding items_rules
 first_passes at n s count e = pass_on 0 (item_rules at (up_to is_comma s)) _ (done_pass 0 (item_rules at (up_to is_comma s)) e)
 
 -- the last item
-last_passes : (at : ℕ) (s : List ℕ) (c : ℕ) → count is_comma s ≡ 0 → first_broken 0 (item_rules at (up_to is_comma s)) ≡ Done c → first_broken 0 (items_rules at 0 s) ≡ Done 0
+last_passes : (at : ℕ) (s : List ℕ) (c : ℕ) → count is_comma s ≡ 0 → first_broken 0 (item_rules at (up_to is_comma s)) ≡ Ok c → first_broken 0 (items_rules at 0 s) ≡ Ok 0
 unfolding items_rules
 last_passes at s c is e =
     let whole = ap (λ (item : List ℕ). first_broken 0 (item_rules at item)) (sym (up_to_none is_comma s is)) ∙ e in
-    whole ∙ ap Done (done_count 0 (item_rules at s) whole)
+    whole ∙ ap Ok (done_count 0 (item_rules at s) whole)
 
 -- the set of the first item, and of the others
 first_set : (n set : ℕ) (s : List ℕ) → union set (items_set (items_in (suc n) s)) ≡ union (union set (item_set (item_of (up_to is_comma s)))) (items_set (items_in n (behind is_comma s)))
@@ -86,7 +86,7 @@ module _ (text : List ℕ) where
     pub word : IsSet set
     pub answer_left : at ≤ length text → all_answer ≡ first_broken 0 (items_rules at (count is_comma (drop at text)) (drop at text))
     pub set_left : at ≤ length text → all_set ≡ union set (items_set (items_in (count is_comma (drop at text)) (drop at text)))
-    pub answer_over : length text < at → all_answer ≡ Done 0
+    pub answer_over : length text < at → all_answer ≡ Ok 0
     pub set_over : length text < at → all_set ≡ set
 
   pub all_left : ItemsLeft 0 0
@@ -96,13 +96,13 @@ module _ (text : List ℕ) where
     abbrev s : List ℕ
     s = drop at text
 
-    pub items_stop : (refusal : Refusal) → taken.answer ≡ Refused refusal → all_answer ≡ Refused refusal
+    pub items_stop : (refusal : Refusal) → taken.answer ≡ Err refusal → all_answer ≡ Err refusal
     items_stop refusal e = left.answer_left inside ∙ first_stops at (count is_comma s) s refusal refl (sym takes.answered ∙ e)
 
-    pub items_more : (c : ℕ) → taken.answer ≡ Done c → ItemsLeft (taken.next + 1) (union set (item_set (item_of (up_to is_comma s))))
+    pub items_more : (c : ℕ) → taken.answer ≡ Ok c → ItemsLeft (taken.next + 1) (union set (item_set (item_of (up_to is_comma s))))
     items_more c e = go (count is_comma s) refl
       where
-        here : first_broken 0 (item_rules at (up_to is_comma s)) ≡ Done c
+        here : first_broken 0 (item_rules at (up_to is_comma s)) ≡ Ok c
         here = sym takes.answered ∙ e
 
         next : taken.next + 1 ≡ at + suc (length (up_to is_comma s))
@@ -148,15 +148,15 @@ module _ (text : List ℕ) where
 
 -- a reading has the answer
 pub reading_answer : (answer : Answer) (set : ℕ) → (reading_by answer set).answer ≡ answer
-reading_answer (Done count) set = refl
-reading_answer (Refused cause) set = refl
+reading_answer (Ok count) set = refl
+reading_answer (Err cause) set = refl
 
 -- 65, the empty text, and a text of items
-pub too_long : (text : List ℕ) → most_list_text < length text → read_list text ≡ record { answer = Refused (OfList ListLength); set = 0 }
+pub too_long : (text : List ℕ) → most_list_text < length text → read_list text ≡ record { answer = Err (OfList ListLength); set = 0 }
 unfolding read_list list_answer list_rules first_broken
 too_long text long = rw (lt-leb (length text) most_list_text long)
 
-pub read_none : (text : List ℕ) → length text ≡ 0 → read_list text ≡ record { answer = Done 0; set = 0 }
+pub read_none : (text : List ℕ) → length text ≡ 0 → read_list text ≡ record { answer = Ok 0; set = 0 }
 unfolding read_list list_answer list_rules content_rules first_broken items_of items_set
 read_none [] none = refl
 read_none (b ∷ s) none = absurd (omega (arith, none))

@@ -1,4 +1,5 @@
 -- The rules of a number, of a range's second number and of an item, as the reader follows them.
+use Rattle.std.specs.Prelude.{Ok, Err}
 use mathlib.Core.Path.{◌≡◌, refl, sym, ap, ◌∙◌}
 use mathlib.Core.Bool.{Bool, true, false}
 use mathlib.Core.List.{List, [], ◌∷◌, ◌++◌}
@@ -9,7 +10,6 @@ use lib.Dec.{leb, eqb}
 use borrow.Author.Tests.{le-leb, lt-leb, leb-true}
 use Rattle.laws.specs.Choice.{pick}
 use Rattle.laws.proofs.Choice.{same_test}
-use Rattle.model.specs.declared.answer.Answer.TheVariants.{Done, Refused}
 use Rattle.model.specs.declared.answer.Refusal.{Refusal}
 use Rattle.model.specs.declared.answer.Refusal.TheVariants.{OfList}
 use Rattle.model.specs.declared.answer.ListCause.TheVariants.{ListShape, ListNumber, ListRange}
@@ -23,19 +23,19 @@ use Rattle.list.proofs.Cut.{item_digits, item_left, dash_in_item, behind-dash}
 
 -- a number
 module _ (at digits value : ℕ) where
-  pub no_digit : digits < 1 → first_broken 0 (number_rules at digits value) ≡ Refused (OfList (ListShape at))
+  pub no_digit : digits < 1 → first_broken 0 (number_rules at digits value) ≡ Err (OfList (ListShape at))
   unfolding first_broken number_rules
   no_digit none = rw (lt-leb 1 digits none)
 
-  pub number_over : 1 ≤ digits → most_listed < value → first_broken 0 (number_rules at digits value) ≡ Refused (OfList (ListNumber at))
+  pub number_over : 1 ≤ digits → most_listed < value → first_broken 0 (number_rules at digits value) ≡ Err (OfList (ListNumber at))
   unfolding first_broken number_rules
   number_over some over = rw (le-leb 1 digits some) (rw (lt-leb value most_listed over))
 
-  pub number_passes : 1 ≤ digits → value ≤ most_listed → first_broken 0 (number_rules at digits value) ≡ Done 0
+  pub number_passes : 1 ≤ digits → value ≤ most_listed → first_broken 0 (number_rules at digits value) ≡ Ok 0
   unfolding first_broken number_rules
   number_passes some few = rw (le-leb 1 digits some) (rw (le-leb value most_listed few))
 
-  pub number_good : (count : ℕ) → first_broken 0 (number_rules at digits value) ≡ Done count → (1 ≤ digits) × (value ≤ most_listed)
+  pub number_good : (count : ℕ) → first_broken 0 (number_rules at digits value) ≡ Ok count → (1 ≤ digits) × (value ≤ most_listed)
   unfolding number_rules AllPass
   number_good count e = let pass = done_pass 0 (number_rules at digits value) e in (leb-true 1 digits pass.0, leb-true value most_listed pass.1.0)
 
@@ -56,15 +56,15 @@ pub value_exact : (value : ℕ) (digits : List ℕ) → value ≡ capped (value_
 value_exact value digits v few = omega (arith, v, few)
 
 -- an item's end
-pub ended : (at : ℕ) (left : List ℕ) → left ≡ [] → first_broken 0 (end_rules at left) ≡ Done 0
+pub ended : (at : ℕ) (left : List ℕ) → left ≡ [] → first_broken 0 (end_rules at left) ≡ Ok 0
 unfolding first_broken end_rules
 ended at left e = rw e
 
-pub not_ended : (at b : ℕ) (rest left : List ℕ) → left ≡ b ∷ rest → first_broken 0 (end_rules at left) ≡ Refused (OfList (ListShape at))
+pub not_ended : (at b : ℕ) (rest left : List ℕ) → left ≡ b ∷ rest → first_broken 0 (end_rules at left) ≡ Err (OfList (ListShape at))
 unfolding first_broken end_rules
 not_ended at b rest left e = rw (lt-leb (length left) 0 (omega (arith, ap length e)))
 
-pub end_reached : (at : ℕ) (left : List ℕ) (count : ℕ) → first_broken 0 (end_rules at left) ≡ Done count → length left ≡ 0
+pub end_reached : (at : ℕ) (left : List ℕ) (count : ℕ) → first_broken 0 (end_rules at left) ≡ Ok count → length left ≡ 0
 unfolding end_rules AllPass
 end_reached at left count e = let l = leb-true (length left) 0 (done_pass 0 (end_rules at left) e).0 in omega (arith, l)
 
@@ -78,22 +78,22 @@ module _ (first : ℕ) (s : List ℕ) (at : ℕ) where
   unfolding last_rules rest
   parts = rw (item_digits s)
 
-  pub last_stops : (refusal : Refusal) → first_broken 0 (number_rules at (length (digits_of s)) (value_of (digits_of s))) ≡ Refused refusal
-      → first_broken 0 (last_rules first at (up_to is_comma s)) ≡ Refused refusal
+  pub last_stops : (refusal : Refusal) → first_broken 0 (number_rules at (length (digits_of s)) (value_of (digits_of s))) ≡ Err refusal
+      → first_broken 0 (last_rules first at (up_to is_comma s)) ≡ Err refusal
   last_stops refusal e = rw parts (stop 0 (number_rules at (length (digits_of s)) (value_of (digits_of s))) (rest (digits_of s)) refusal e)
 
-  passes_on : (count : ℕ) → first_broken 0 (number_rules at (length (digits_of s)) (value_of (digits_of s))) ≡ Done count
+  passes_on : (count : ℕ) → first_broken 0 (number_rules at (length (digits_of s)) (value_of (digits_of s))) ≡ Ok count
       → first_broken 0 (last_rules first at (up_to is_comma s)) ≡ first_broken 0 (rest (digits_of s))
   passes_on count e =
       let number = number_rules at (length (digits_of s)) (value_of (digits_of s)) in
       rw parts (pass_on 0 number (rest (digits_of s)) (done_pass 0 number e))
 
-  pub last_falls : (count : ℕ) → first_broken 0 (number_rules at (length (digits_of s)) (value_of (digits_of s))) ≡ Done count → value_of (digits_of s) < first
-      → first_broken 0 (last_rules first at (up_to is_comma s)) ≡ Refused (OfList (ListRange at))
+  pub last_falls : (count : ℕ) → first_broken 0 (number_rules at (length (digits_of s)) (value_of (digits_of s))) ≡ Ok count → value_of (digits_of s) < first
+      → first_broken 0 (last_rules first at (up_to is_comma s)) ≡ Err (OfList (ListRange at))
   unfolding first_broken rest
   last_falls count e falls = passes_on count e ∙ rw (lt-leb first (value_of (digits_of s)) falls)
 
-  pub last_ends : (count : ℕ) → first_broken 0 (number_rules at (length (digits_of s)) (value_of (digits_of s))) ≡ Done count → first ≤ value_of (digits_of s)
+  pub last_ends : (count : ℕ) → first_broken 0 (number_rules at (length (digits_of s)) (value_of (digits_of s))) ≡ Ok count → first ≤ value_of (digits_of s)
       → first_broken 0 (last_rules first at (up_to is_comma s)) ≡ first_broken 0 (end_rules (at + length (digits_of s)) (up_to is_comma (behind_digits s)))
   unfolding first_broken rest
   last_ends count e rises = passes_on count e ∙ rw (le-leb first (value_of (digits_of s)) rises) (ap (λ (left : List ℕ). first_broken 0 (end_rules (at + length (digits_of s)) left)) (item_left s))
@@ -118,20 +118,20 @@ module _ (s : List ℕ) (at : ℕ) where
       ∙ ap (λ (left : List ℕ). number ++ more_rules (eqb (get_or left 0 0) dash) (value_of (digits_of s)) (at + length (digits_of s)) left) behind
       ∙ ap (λ (dashed : Bool). number ++ more_rules dashed (value_of (digits_of s)) (at + length (digits_of s)) (up_to is_comma (behind_digits s))) (dash_in_item (behind_digits s))
 
-  pub item_stops : (refusal : Refusal) → first_broken 0 number ≡ Refused refusal → first_broken 0 (item_rules at (up_to is_comma s)) ≡ Refused refusal
+  pub item_stops : (refusal : Refusal) → first_broken 0 number ≡ Err refusal → first_broken 0 (item_rules at (up_to is_comma s)) ≡ Err refusal
   item_stops refusal e = ap (first_broken 0) item_parts ∙ stop 0 number (more (is_dashed s)) refusal e
 
-  item_passes : (count : ℕ) → first_broken 0 number ≡ Done count → first_broken 0 (item_rules at (up_to is_comma s)) ≡ first_broken 0 (more (is_dashed s))
+  item_passes : (count : ℕ) → first_broken 0 number ≡ Ok count → first_broken 0 (item_rules at (up_to is_comma s)) ≡ first_broken 0 (more (is_dashed s))
   item_passes count e = ap (first_broken 0) item_parts ∙ pass_on 0 number (more (is_dashed s)) (done_pass 0 number e)
 
-  pub item_ranges : (count : ℕ) → first_broken 0 number ≡ Done count → is_dashed s ≡ true
+  pub item_ranges : (count : ℕ) → first_broken 0 number ≡ Ok count → is_dashed s ≡ true
       → first_broken 0 (item_rules at (up_to is_comma s)) ≡ first_broken 0 (last_rules (value_of (digits_of s)) (suc (at + length (digits_of s))) (up_to is_comma (behind_dash s)))
   unfolding more more_rules
   item_ranges count e dashed =
       item_passes count e ∙ ap (λ (d : Bool). first_broken 0 (more d)) dashed
       ∙ ap (λ (left : List ℕ). first_broken 0 (last_rules (value_of (digits_of s)) (suc (at + length (digits_of s))) (drop 1 left))) (behind-dash (behind_digits s) dashed)
 
-  pub item_ends : (count : ℕ) → first_broken 0 number ≡ Done count → is_dashed s ≡ false
+  pub item_ends : (count : ℕ) → first_broken 0 number ≡ Ok count → is_dashed s ≡ false
       → first_broken 0 (item_rules at (up_to is_comma s)) ≡ first_broken 0 (end_rules (at + length (digits_of s)) (up_to is_comma (behind_digits s)))
   unfolding more more_rules
   item_ends count e alone = item_passes count e ∙ ap (λ (d : Bool). first_broken 0 (more d)) alone

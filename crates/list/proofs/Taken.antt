@@ -1,4 +1,5 @@
 -- What the reader takes, piece by piece: an item's end, a range's second number, and an item.
+use Rattle.std.specs.Prelude.{Ok, Err}
 use mathlib.Core.Path.{◌≡◌, refl, sym, ap, ◌∙◌, subst}
 use mathlib.Core.Bool.{Bool, true, false}
 use mathlib.Core.List.{List}
@@ -10,8 +11,7 @@ use lib.ListN.{length, get_or, drop, drop_of_length-le, get_or-eq_default}
 use lib.Seq.{drop-cons, drop-drop, get_or-drop}
 use lib.Dec.{eqb}
 use borrow.Author.Tests.{eq-eqb, ne_eqb, eqb-true}
-use Rattle.model.specs.declared.answer.Answer.{Answer}
-use Rattle.model.specs.declared.answer.Answer.TheVariants.{Done, Refused}
+use Rattle.model.specs.Kinds.{Answer}
 use Rattle.model.specs.declared.answer.Refusal.{Refusal}
 use Rattle.model.specs.declared.answer.Refusal.TheVariants.{OfList}
 use Rattle.model.specs.declared.answer.ListCause.TheVariants.{ListShape, ListRange}
@@ -30,13 +30,13 @@ use Rattle.list.proofs.Rules.{number_good, number_told, value_exact, ended, not_
 
 -- an item's end at a place of a text
 module _ (text : List ℕ) (at : ℕ) where
-  pub end_past : length text ≤ at → first_broken 0 (end_rules at (up_to is_comma (drop at text))) ≡ Done 0
+  pub end_past : length text ≤ at → first_broken 0 (end_rules at (up_to is_comma (drop at text))) ≡ Ok 0
   end_past past = ended at _ (ap (up_to is_comma) (drop_of_length-le text past) ∙ up_to_nil is_comma)
 
-  pub end_comma : at < length text → get_or text at 0 ≡ comma → first_broken 0 (end_rules at (up_to is_comma (drop at text))) ≡ Done 0
+  pub end_comma : at < length text → get_or text at 0 ≡ comma → first_broken 0 (end_rules at (up_to is_comma (drop at text))) ≡ Ok 0
   end_comma inside here = ended at _ (ap (up_to is_comma) (drop-cons text at 0 inside) ∙ up_to_stop is_comma _ _ (eq-eqb _ comma here))
 
-  pub end_other : at < length text → (get_or text at 0 ≡ comma → ⊥) → first_broken 0 (end_rules at (up_to is_comma (drop at text))) ≡ Refused (OfList (ListShape at))
+  pub end_other : at < length text → (get_or text at 0 ≡ comma → ⊥) → first_broken 0 (end_rules at (up_to is_comma (drop at text))) ≡ Err (OfList (ListShape at))
   end_other inside other = not_ended at _ _ _ (ap (up_to is_comma) (drop-cons text at 0 inside) ∙ up_to_more is_comma _ _ (ne_eqb _ comma other))
 
 -- what stands behind the digits from a place on
@@ -56,18 +56,18 @@ module _ (text : List ℕ) (at first value next : ℕ) (exact : value ≡ capped
   abbrev s : List ℕ
   s = drop at text
 
-  pub last_refused : (refusal : Refusal) → first_broken 0 (number_rules at (next - at) value) ≡ Refused refusal → TakesLast first s at (refused_item refusal)
+  pub last_refused : (refusal : Refusal) → first_broken 0 (number_rules at (next - at) value) ≡ Err refusal → TakesLast first s at (refused_item refusal)
   last_refused refusal e =
       record { answered = sym (last_stops first s at refusal (sym (number_told at next value (digits_of s) exact n) ∙ e)); held = λ count done. never done }
 
-  pub last_below : (count : ℕ) → first_broken 0 (number_rules at (next - at) value) ≡ Done count → value < first → TakesLast first s at (refused_item (OfList (ListRange at)))
+  pub last_below : (count : ℕ) → first_broken 0 (number_rules at (next - at) value) ≡ Ok count → value < first → TakesLast first s at (refused_item (OfList (ListRange at)))
   last_below count e falls =
       let good = sym (number_told at next value (digits_of s) exact n) ∙ e in
       let few = (number_good at _ _ count good).1 in
       let same = value_exact value (digits_of s) exact few in
       record { answered = sym (last_falls first s at count good (omega (arith, falls, same))); held = λ count done. never done }
 
-  pub last_taken : (count : ℕ) (answer : Answer) → first_broken 0 (number_rules at (next - at) value) ≡ Done count → first ≤ value
+  pub last_taken : (count : ℕ) (answer : Answer) → first_broken 0 (number_rules at (next - at) value) ≡ Ok count → first ≤ value
       → answer ≡ first_broken 0 (end_rules next (up_to is_comma (drop next text)))
       → TakesLast first s at (record { answer = answer; first = first; last = value; next = next })
   last_taken count answer e rises here =
@@ -94,11 +94,11 @@ module _ (text : List ℕ) (at value next : ℕ) (exact : value ≡ capped (valu
   pub dash_told : (dashed : Bool) → eqb (get_or text next 0) dash ≡ dashed → is_dashed t ≡ dashed
   dash_told dashed e = ap (λ (left : List ℕ). eqb (get_or left 0 0) dash) (left_at text at next n) ∙ ap (λ (b : ℕ). eqb b dash) (get_or-drop next text 0 0 ∙ ap (λ (k : ℕ). get_or text k 0) (add-zero next)) ∙ e
 
-  pub item_refused : (refusal : Refusal) → first_broken 0 (number_rules at (next - at) value) ≡ Refused refusal → TakesItem t at (refused_item refusal)
+  pub item_refused : (refusal : Refusal) → first_broken 0 (number_rules at (next - at) value) ≡ Err refusal → TakesItem t at (refused_item refusal)
   item_refused refusal e =
       record { answered = sym (item_stops t at refusal (sym (number_told at next value (digits_of t) exact n) ∙ e)); held = λ count done. never done }
 
-  pub alone_taken : (count : ℕ) (answer : Answer) → first_broken 0 (number_rules at (next - at) value) ≡ Done count → is_dashed t ≡ false
+  pub alone_taken : (count : ℕ) (answer : Answer) → first_broken 0 (number_rules at (next - at) value) ≡ Ok count → is_dashed t ≡ false
       → answer ≡ first_broken 0 (end_rules next (up_to is_comma (drop next text)))
       → TakesItem t at (record { answer = answer; first = value; last = value; next = next })
   alone_taken count answer e alone here =
@@ -117,7 +117,7 @@ module _ (text : List ℕ) (at value next : ℕ) (exact : value ≡ capped (valu
             (record { first_is = same; last_is = same; right = record { listed = few; rises = omega arith }; next_at = omega (arith, n, size, none) });
       }
 
-  pub range_taken : (count : ℕ) (taken : ItemTaken) → first_broken 0 (number_rules at (next - at) value) ≡ Done count → is_dashed t ≡ true
+  pub range_taken : (count : ℕ) (taken : ItemTaken) → first_broken 0 (number_rules at (next - at) value) ≡ Ok count → is_dashed t ≡ true
       → TakesLast value (drop (next + 1) text) (next + 1) taken → TakesItem t at taken
   range_taken count taken e dashed last =
       let good = sym (number_told at next value (digits_of t) exact n) ∙ e in

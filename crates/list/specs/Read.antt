@@ -1,8 +1,7 @@
 -- Reading a list of processors: "65 a text over 1,024 bytes, no place, first", then item by item 60, 61 and 62 by rising place.
-use Rattle.std.specs.Prelude.{ℕ, zero, suc, ◌+◌, ◌≡◌, Bool, true, false, List, [], ◌∷◌, ◌++◌, length, get_or, drop, eqb}
+use Rattle.std.specs.Prelude.{ℕ, zero, suc, ◌+◌, ◌≡◌, Bool, true, false, List, [], ◌∷◌, ◌++◌, length, get_or, drop, eqb, Ok, Err}
 use Rattle.laws.specs.Choice.{pick}
-use Rattle.model.specs.declared.answer.Answer.{Answer}
-use Rattle.model.specs.declared.answer.Answer.TheVariants.{Done, Refused}
+use Rattle.model.specs.Kinds.{Answer}
 use Rattle.model.specs.declared.answer.Refusal.TheVariants.{OfList}
 use Rattle.model.specs.declared.answer.ListCause.TheVariants.{ListShape, ListNumber, ListRange, ListLength}
 use Rattle.model.specs.Rules.{Rule, rule, at_most, first_broken}
@@ -80,8 +79,8 @@ items_of (b ∷ s) = items_in (count is_comma (b ∷ s)) (b ∷ s)
 
 -- "the answer and the set, 0 on refusal"
 abbrev pub reading_by : Answer → (set : ℕ) → ListReading
-reading_by (Done count) set = record { answer = Done count; set = set }
-reading_by (Refused cause) set = record { answer = Refused cause; set = 0 }
+reading_by (Ok count) set = record { answer = Ok count; set = set }
+reading_by (Err cause) set = record { answer = Err cause; set = 0 }
 
 unfoldable pub read_list : List ℕ → ListReading
 read_list text = reading_by (list_answer text) (items_set (items_of text))

@@ -8,7 +8,7 @@ ghost use Rattle.list_form.specs.Items.{dash};
 ghost use Rattle.list.specs.Read.{most_list_text, is_comma, number_rules, end_rules, ReadsList};
 ghost use Rattle.list.specs.Taken.{refused_item, TakesLast, TakesItem, TakesItems};
 
-use model::{Answer, ListCause, Refusal};
+use model::{ListCause, Refusal};
 use sets::{span, union};
 use typed::take_digits;
 
@@ -21,14 +21,14 @@ const MOST_LISTED: u32 = 63;
 // A list read: the answer, and its set, empty on refusal.
 #[derive(Clone, Copy)]
 pub struct ListReading {
-    pub answer: Answer,
+    pub answer: Result<u32, Refusal>,
     pub set: u64,
 }
 
 // An item taken: its answer, its numbers, and where it ends.
 #[derive(Clone, Copy)]
 pub struct ItemTaken {
-    pub answer: Answer,
+    pub answer: Result<u32, Refusal>,
     pub first: u32,
     pub last: u32,
     pub next: usize,
@@ -38,7 +38,7 @@ fn refused_item(cause: Refusal) -> ItemTaken
     ensures { result ≡ refused_item cause }
 {
     ItemTaken {
-        answer: Answer::Refused(cause),
+        answer: Err(cause),
         first: 0,
         last: 0,
         next: 0,
@@ -58,32 +58,32 @@ fn dash_at(text: &[u8], at: usize) -> bool
 }
 
 // A number of so many digits at a place: 60 where it has none, 61 where it is over 63.
-fn number_answer(at: usize, digits: usize, value: u32) -> Answer
+fn number_answer(at: usize, digits: usize, value: u32) -> Result<u32, Refusal>
     requires { at ≤ most_list_text }
     ensures { result ≡ first_broken 0 (number_rules at digits value) }
 {
     if digits < 1 {
-        return Answer::Refused(Refusal::OfList(ListCause::ListShape(at as u16)));
+        return Err(Refusal::OfList(ListCause::ListShape(at as u16)));
     }
     if value > MOST_LISTED {
-        return Answer::Refused(Refusal::OfList(ListCause::ListNumber(at as u16)));
+        return Err(Refusal::OfList(ListCause::ListNumber(at as u16)));
     }
-    Answer::Done(0)
+    Ok(0)
 }
 
 // An item's end: 60 where neither a comma nor the text's end is at the place.
-fn end_answer(text: &[u8], at: usize) -> Answer
+fn end_answer(text: &[u8], at: usize) -> Result<u32, Refusal>
     requires { (at ≤ length text.now) × (length text.now ≤ most_list_text) }
     ensures { result ≡ first_broken 0 (end_rules at (up_to is_comma (drop at text.now))) }
 {
     if text.len() <= at {
-        return Answer::Done(0);
+        return Ok(0);
     }
     let byte = text[at];
     if byte == b',' {
-        return Answer::Done(0);
+        return Ok(0);
     }
-    Answer::Refused(Refusal::OfList(ListCause::ListShape(at as u16)))
+    Err(Refusal::OfList(ListCause::ListShape(at as u16)))
 }
 
 // The second number of a range, and the item's end: 60, 61, and 62 where it is below the first.
@@ -95,7 +95,7 @@ fn take_last(text: &[u8], at: usize, first: u32) -> ItemTaken
     let last = digits.value;
     let next = digits.next;
     let answer = number_answer(at, next - at, last);
-    if let Answer::Refused(cause) = answer {
+    if let Err(cause) = answer {
         return refused_item(cause);
     }
     if last < first {
@@ -118,7 +118,7 @@ fn take_item(text: &[u8], at: usize) -> ItemTaken
     let first = digits.value;
     let next = digits.next;
     let answer = number_answer(at, next - at, first);
-    if let Answer::Refused(cause) = answer {
+    if let Err(cause) = answer {
         return refused_item(cause);
     }
     if dash_at(text, next) {
@@ -142,9 +142,9 @@ fn take_items(text: &[u8]) -> ListReading
     while at <= text.len() {
         let item = take_item(text, at);
         let answer = item.answer;
-        if let Answer::Refused(cause) = answer {
+        if let Err(cause) = answer {
             return ListReading {
-                answer: Answer::Refused(cause),
+                answer: Err(cause),
                 set: 0,
             };
         }
@@ -154,7 +154,7 @@ fn take_items(text: &[u8]) -> ListReading
         at = item.next + 1;
     }
     ListReading {
-        answer: Answer::Done(0),
+        answer: Ok(0),
         set,
     }
 }
@@ -166,13 +166,13 @@ pub fn read_list(text: &[u8]) -> ListReading
     let size = text.len();
     if size > MOST_TEXT {
         return ListReading {
-            answer: Answer::Refused(Refusal::OfList(ListCause::ListLength)),
+            answer: Err(Refusal::OfList(ListCause::ListLength)),
             set: 0,
         };
     }
     if size == 0 {
         return ListReading {
-            answer: Answer::Done(0),
+            answer: Ok(0),
             set: 0,
         };
     }

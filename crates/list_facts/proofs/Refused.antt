@@ -1,4 +1,5 @@
 -- Each refusal is for its cause and place only: 65 first, then of 60, 61 and 62 the one at the lowest place.
+use Rattle.std.specs.Prelude.{Ok, Err}
 use mathlib.Core.Path.{◌≡◌, refl, sym, ap, ◌∙◌, subst}
 use mathlib.Core.List.{List}
 use mathlib.Core.Logic.{◌⊎◌, inl, inr, ⊎_elim}
@@ -6,8 +7,7 @@ use Prim.Native.Nat.{ℕ, suc, ◌≤◌, ◌<◌}
 use native.Mathlib.Omega.{arith}
 use native.Mathlib.Decide.{dec_le}
 use lib.ListN.{length}
-use Rattle.model.specs.declared.answer.Answer.{Answer}
-use Rattle.model.specs.declared.answer.Answer.TheVariants.{Done, Refused}
+use Rattle.model.specs.Kinds.{Answer}
 use Rattle.model.specs.declared.answer.Refusal.{Refusal}
 use Rattle.model.specs.declared.answer.Refusal.TheVariants.{OfList}
 use Rattle.model.specs.declared.answer.ListCause.{ListCause}
@@ -28,7 +28,7 @@ use Rattle.list_facts.proofs.Item.{Found}
 use Rattle.list_facts.proofs.Walk.{content_offence, content_kept}
 
 -- what a refusal is for
-refused_found : (text : List ℕ) (refusal : Refusal) → list_answer text ≡ Refused refusal → ((most_list_text < length text) × (refusal ≡ OfList ListLength)) ⊎ ((length text ≤ most_list_text) × Found text refusal)
+refused_found : (text : List ℕ) (refusal : Refusal) → list_answer text ≡ Err refusal → ((most_list_text < length text) × (refusal ≡ OfList ListLength)) ⊎ ((length text ≤ most_list_text) × Found text refusal)
 unfolding list_answer list_rules FirstOffence
 refused_found text refusal e = go (refused_offence 0 (list_rules text) refusal (list_tells text) e)
   where
@@ -36,7 +36,7 @@ refused_found text refusal e = go (refused_offence 0 (list_rules text) refusal (
     go (inl (long, same)) = inl (omega (arith, long), sym same)
     go (inr (short, offence)) = inr (short, content_offence text refusal offence)
 
-refused_cause : (text : List ℕ) (refusal : Refusal) → list_answer text ≡ Refused refusal → (cause : ListCause) × (refusal ≡ OfList cause)
+refused_cause : (text : List ℕ) (refusal : Refusal) → list_answer text ≡ Err refusal → (cause : ListCause) × (refusal ≡ OfList cause)
 refused_cause text refusal e =
     ⊎_elim
     (λ (long : (most_list_text < length text) × (refusal ≡ OfList ListLength)). (ListLength, long.1))
@@ -48,11 +48,11 @@ unfolding read_list
 list_refuses text reading refusal reads e = go (list_answer text) refl reads
   where
     go : (answer : Answer) → list_answer text ≡ answer → reading ≡ reading_by answer (items_set (items_of text)) → ((cause : ListCause) × (refusal ≡ OfList cause)) × (reading.set ≡ 0)
-    go (Done count) h r = never (sym e ∙ ap (λ (x : ListReading). x.answer) r)
-    go (Refused other) h r = (refused_cause text refusal (h ∙ sym (ap (λ (x : ListReading). x.answer) r) ∙ e), ap (λ (x : ListReading). x.set) r)
+    go (Ok count) h r = never (sym e ∙ ap (λ (x : ListReading). x.answer) r)
+    go (Err other) h r = (refused_cause text refusal (h ∙ sym (ap (λ (x : ListReading). x.answer) r) ∙ e), ap (λ (x : ListReading). x.set) r)
 
 -- nothing is wrong in a text that is accepted
-done_sound : (text : List ℕ) (count : ℕ) → list_answer text ≡ Done count → (at : ℕ) → SoundAt text at
+done_sound : (text : List ℕ) (count : ℕ) → list_answer text ≡ Ok count → (at : ℕ) → SoundAt text at
 unfolding list_answer list_rules AllKept
 done_sound text count e =
     let kept = pass_kept (list_rules text) (list_tells text) (done_pass 0 (list_rules text) e) in
@@ -69,7 +69,7 @@ length_refused_exactly text = (
 )
 
 -- what a refusal with a place says
-refused_lowest : (text : List ℕ) (cause : ListCause) → (cause ≡ ListLength → ⊥) → list_answer text ≡ Refused (OfList cause) → (length text ≤ most_list_text) × Lowest text cause
+refused_lowest : (text : List ℕ) (cause : ListCause) → (cause ≡ ListLength → ⊥) → list_answer text ≡ Err (OfList cause) → (length text ≤ most_list_text) × Lowest text cause
 refused_lowest text cause placed e =
     ⊎_elim
     (λ (long : (most_list_text < length text) × (OfList cause ≡ OfList ListLength)). let same : cause ≡ ListLength = cc long.1 in absurd (placed same))
@@ -96,14 +96,14 @@ same_place text one other w sound w' sound' = go (dec_le (suc one) other) (dec_l
 
 -- refused for what is wrong at the lowest place
 abbrev RefusedFor : List ℕ → ListCause → Type 0
-RefusedFor text cause = (list_answer text ≡ Refused (OfList cause)) × Lowest text cause
+RefusedFor text cause = (list_answer text ≡ Err (OfList cause)) × Lowest text cause
 
 abbrev RefusedAt : List ℕ → ℕ → Type 0
 RefusedAt text at = RefusedFor text (ListShape at) ⊎ (RefusedFor text (ListNumber at) ⊎ RefusedFor text (ListRange at))
 
 -- where something is wrong and nothing below, the refusal has that place
 module _ (text : List ℕ) (at : ℕ) (short : length text ≤ most_list_text) (wrong : Wrong text at) (sound : SoundBelow text at) where
-  placed_at : (cause : ListCause) → list_answer text ≡ Refused (OfList cause) → Lowest text cause → RefusedAt text at
+  placed_at : (cause : ListCause) → list_answer text ≡ Err (OfList cause) → Lowest text cause → RefusedAt text at
   unfolding Lowest
   placed_at (ListShape other) e low =
       let same : other ≡ at = same_place text at other wrong sound (inl low.0) low.2 in inl (subst (λ (n : ℕ). RefusedFor text (ListShape n)) same (e, low))
@@ -117,21 +117,21 @@ module _ (text : List ℕ) (at : ℕ) (short : length text ≤ most_list_text) (
   refused_there = go (list_answer text) refl
     where
       go : (answer : Answer) → list_answer text ≡ answer → RefusedAt text at
-      go (Done count) h = absurd (not_wrong text at (done_sound text count h at) wrong)
-      go (Refused refusal) h =
+      go (Ok count) h = absurd (not_wrong text at (done_sound text count h at) wrong)
+      go (Err refusal) h =
           ⊎_elim
           (λ (long : (most_list_text < length text) × (refusal ≡ OfList ListLength)). absurd (omega (arith, long.0, short)))
-          (λ (found : (length text ≤ most_list_text) × Found text refusal). placed_at found.1.0 (h ∙ ap Refused found.1.1) found.1.2)
+          (λ (found : (length text ≤ most_list_text) × Found text refusal). placed_at found.1.0 (h ∙ ap Err found.1.1) found.1.2)
           (refused_found text refusal h)
 
 pub break_refused_exactly : BreakRefusedExactly
 unfolding Lowest
 break_refused_exactly text at = (there, back)
   where
-    there : list_answer text ≡ Refused (OfList (ListShape at)) → (length text ≤ most_list_text) × BreaksAt text at × SoundBelow text at
+    there : list_answer text ≡ Err (OfList (ListShape at)) → (length text ≤ most_list_text) × BreaksAt text at × SoundBelow text at
     there e = let r = refused_lowest text (ListShape at) (λ c. omega (arith, ap list_number c)) e in (r.0, r.1.0, r.1.2)
 
-    back : (length text ≤ most_list_text) × BreaksAt text at × SoundBelow text at → list_answer text ≡ Refused (OfList (ListShape at))
+    back : (length text ≤ most_list_text) × BreaksAt text at × SoundBelow text at → list_answer text ≡ Err (OfList (ListShape at))
     back (short, breaks, sound) =
         ⊎_elim
         (λ (shape : RefusedFor text (ListShape at)). shape.0)
@@ -142,10 +142,10 @@ pub over_refused_exactly : OverRefusedExactly
 unfolding Lowest
 over_refused_exactly text at = (there, back)
   where
-    there : list_answer text ≡ Refused (OfList (ListNumber at)) → (length text ≤ most_list_text) × NumberOver text at × SoundBelow text at
+    there : list_answer text ≡ Err (OfList (ListNumber at)) → (length text ≤ most_list_text) × NumberOver text at × SoundBelow text at
     there e = let r = refused_lowest text (ListNumber at) (λ c. omega (arith, ap list_number c)) e in (r.0, r.1.0, r.1.2)
 
-    back : (length text ≤ most_list_text) × NumberOver text at × SoundBelow text at → list_answer text ≡ Refused (OfList (ListNumber at))
+    back : (length text ≤ most_list_text) × NumberOver text at × SoundBelow text at → list_answer text ≡ Err (OfList (ListNumber at))
     back (short, over, sound) =
         ⊎_elim
         (λ (shape : RefusedFor text (ListShape at)). absurd (shape.1.1 over.value over.stands))
@@ -156,10 +156,10 @@ pub fall_refused_exactly : FallRefusedExactly
 unfolding Lowest
 fall_refused_exactly text at = (there, back)
   where
-    there : list_answer text ≡ Refused (OfList (ListRange at)) → (length text ≤ most_list_text) × RangeFalls text at × SoundBelow text at
+    there : list_answer text ≡ Err (OfList (ListRange at)) → (length text ≤ most_list_text) × RangeFalls text at × SoundBelow text at
     there e = let r = refused_lowest text (ListRange at) (λ c. omega (arith, ap list_number c)) e in (r.0, r.1.0, r.1.2)
 
-    back : (length text ≤ most_list_text) × RangeFalls text at × SoundBelow text at → list_answer text ≡ Refused (OfList (ListRange at))
+    back : (length text ≤ most_list_text) × RangeFalls text at × SoundBelow text at → list_answer text ≡ Err (OfList (ListRange at))
     back (short, falls, sound) =
         ⊎_elim
         (λ (shape : RefusedFor text (ListShape at)). absurd (shape.1.1 falls.last falls.follows))

@@ -1,11 +1,11 @@
 -- What is written: the runs of a set, as its list and in one way.
+use Rattle.std.specs.Prelude.{Ok}
 use mathlib.Core.Path.{◌≡◌, refl, sym, ap, ◌∙◌, subst}
 use mathlib.Core.List.{List, []}
 use Prim.Native.Nat.{ℕ}
 use lib.ListN.{length, take, drop}
 use lib.Seq.{take_at}
-use Rattle.model.specs.declared.answer.Answer.{Answer}
-use Rattle.model.specs.declared.answer.Answer.TheVariants.{Done}
+use Rattle.model.specs.Kinds.{Answer}
 use Rattle.model.specs.Answer.{output_after}
 use Rattle.model.specs.Rules.{first_broken, OneRightAnswer, TestsTell, room_rules}
 use Rattle.model.proofs.Rules.{room_tells, one_right_answer}
@@ -59,7 +59,7 @@ module _ (set : ℕ) (output : List ℕ) (answer : Answer) (after : List ℕ) (w
   answered_by = w.answered
 
   -- the counted front is the list
-  pub list_front : (count : ℕ) → answer ≡ Done count → take count after ≡ list_text set
+  pub list_front : (count : ℕ) → answer ≡ Ok count → take count after ≡ list_text set
   list_front count e =
       ap (take count) (wrote_front [] _ (list_text set) output answer after answered_by w.written count e)
       ∙ take_at (list_text set) (drop count output) count (sym (wrote_count [] _ (list_text set) output answer after answered_by w.written count e))

@@ -1,7 +1,6 @@
 -- Sets and the lists that are written of them, and texts as they are read or refused, worked out.
-use Rattle.std.specs.Prelude.{ℕ, ◌-◌, ◌^◌, ◌≡◌, [], ◌∷◌, length}
+use Rattle.std.specs.Prelude.{ℕ, ◌-◌, ◌^◌, ◌≡◌, [], ◌∷◌, length, Ok, Err}
 use Prim.Native.String.{String}
-use Rattle.model.specs.declared.answer.Answer.TheVariants.{Done, Refused}
 use Rattle.model.specs.declared.answer.Refusal.TheVariants.{OfList}
 use Rattle.model.specs.declared.answer.ListCause.{ListCause}
 use Rattle.model.specs.declared.answer.ListCause.TheVariants.{ListShape, ListNumber, ListRange}
@@ -15,11 +14,11 @@ WrittenAs set text = list_text set ≡ bytes_of text
 
 -- the text is read as this set
 abbrev pub ListedAs : String → ℕ → Type 0
-ListedAs text set = read_list (bytes_of text) ≡ record { answer = Done 0; set = set }
+ListedAs text set = read_list (bytes_of text) ≡ record { answer = Ok 0; set = set }
 
 -- the text is refused for this cause
 abbrev pub NotListed : String → ListCause → Type 0
-NotListed text cause = read_list (bytes_of text) ≡ record { answer = Refused (OfList cause); set = 0 }
+NotListed text cause = read_list (bytes_of text) ≡ record { answer = Err (OfList cause); set = 0 }
 
 -- two of each three processors, and the last
 abbrev pub longest_set : ℕ

@@ -1,8 +1,7 @@
 -- Lists of processors read and written: correct, complete, and with one meaning; proved in proofs/.
 -- What a list is, and what is wrong with a text that is none, stands in crates/list_form/specs.
-use Rattle.std.specs.Prelude.{ℕ, ◌≤◌, ◌<◌, ◌≡◌, true, List, ◌↔◌, length, take}
-use Rattle.model.specs.declared.answer.Answer.{Answer}
-use Rattle.model.specs.declared.answer.Answer.TheVariants.{Done, Refused}
+use Rattle.std.specs.Prelude.{ℕ, ◌≤◌, ◌<◌, ◌≡◌, true, List, ◌↔◌, length, take, Ok, Err}
+use Rattle.model.specs.Kinds.{Answer}
 use Rattle.model.specs.declared.answer.Refusal.{Refusal}
 use Rattle.model.specs.declared.answer.Refusal.TheVariants.{OfList}
 use Rattle.model.specs.declared.answer.ListCause.{ListCause}
@@ -27,7 +26,7 @@ pub record Lists (text : List ℕ) (items : List Item) : Type 0 where
 -- a text is accepted exactly when it is such a list, and then its set is the union of its items
 abbrev pub ListAcceptedExactly : Type 0
 ListAcceptedExactly = (text : List ℕ) (reading : ListReading) (set : ℕ) → ReadsList text reading
-    → (reading ≡ record { answer = Done 0; set = set }) ↔ ((items : List Item) × Lists text items × (set ≡ items_set items))
+    → (reading ≡ record { answer = Ok 0; set = set }) ↔ ((items : List Item) × Lists text items × (set ≡ items_set items))
 
 -- a processor is in the set exactly when some item has it
 abbrev pub SetIsListed : Type 0
@@ -39,27 +38,27 @@ OneList = (text : List ℕ) (one other : List Item) → IsList text one → IsLi
 
 -- every answer is done with count 0, or for one of the list's own causes; "0 on refusal"
 abbrev pub ListAnswers : Type 0
-ListAnswers = (text : List ℕ) (count : ℕ) → list_answer text ≡ Done count → count ≡ 0
+ListAnswers = (text : List ℕ) (count : ℕ) → list_answer text ≡ Ok count → count ≡ 0
 
 abbrev pub ListRefuses : Type 0
-ListRefuses = (text : List ℕ) (reading : ListReading) (refusal : Refusal) → ReadsList text reading → reading.answer ≡ Refused refusal
+ListRefuses = (text : List ℕ) (reading : ListReading) (refusal : Refusal) → ReadsList text reading → reading.answer ≡ Err refusal
     → ((cause : ListCause) × (refusal ≡ OfList cause)) × (reading.set ≡ 0)
 
 -- 65 exactly when the text is too long
 abbrev pub LengthRefusedExactly : Type 0
-LengthRefusedExactly = (text : List ℕ) → (list_answer text ≡ Refused (OfList ListLength)) ↔ (most_list_text < length text)
+LengthRefusedExactly = (text : List ℕ) → (list_answer text ≡ Err (OfList ListLength)) ↔ (most_list_text < length text)
 
 -- 60 at a place exactly when no list could have the byte there, or the text stops short there, and nothing is wrong below it
 abbrev pub BreakRefusedExactly : Type 0
-BreakRefusedExactly = (text : List ℕ) (at : ℕ) → (list_answer text ≡ Refused (OfList (ListShape at))) ↔ ((length text ≤ most_list_text) × BreaksAt text at × SoundBelow text at)
+BreakRefusedExactly = (text : List ℕ) (at : ℕ) → (list_answer text ≡ Err (OfList (ListShape at))) ↔ ((length text ≤ most_list_text) × BreaksAt text at × SoundBelow text at)
 
 -- 61 at a place exactly when a number over 63 has its first digit there, and nothing is wrong below it
 abbrev pub OverRefusedExactly : Type 0
-OverRefusedExactly = (text : List ℕ) (at : ℕ) → (list_answer text ≡ Refused (OfList (ListNumber at))) ↔ ((length text ≤ most_list_text) × NumberOver text at × SoundBelow text at)
+OverRefusedExactly = (text : List ℕ) (at : ℕ) → (list_answer text ≡ Err (OfList (ListNumber at))) ↔ ((length text ≤ most_list_text) × NumberOver text at × SoundBelow text at)
 
 -- 62 at a place exactly when the second number of a range that falls stands there, and nothing is wrong below it
 abbrev pub FallRefusedExactly : Type 0
-FallRefusedExactly = (text : List ℕ) (at : ℕ) → (list_answer text ≡ Refused (OfList (ListRange at))) ↔ ((length text ≤ most_list_text) × RangeFalls text at × SoundBelow text at)
+FallRefusedExactly = (text : List ℕ) (at : ℕ) → (list_answer text ≡ Err (OfList (ListRange at))) ↔ ((length text ≤ most_list_text) × RangeFalls text at × SoundBelow text at)
 
 -- what is written: the runs of the set, each as long as it can be, rising, each once, and every processor of it in one
 pub record WrittenRuns (set : ℕ) (items : List Item) : Type 0 where
@@ -89,8 +88,8 @@ OneListWriting = (set room : ℕ) (answer : Answer) → (answer ≡ write_list_a
 -- "Read any such list back": reading what was written gives the set
 abbrev pub ListReadBack : Type 0
 ListReadBack = (set : ℕ) (output : List ℕ) (written : Answer) (after : List ℕ) (count : ℕ) (reading : ListReading)
-    → IsSet set → WritesList set output written after → written ≡ Done count → ReadsList (take count after) reading
-    → reading ≡ record { answer = Done 0; set = set }
+    → IsSet set → WritesList set output written after → written ≡ Ok count → ReadsList (take count after) reading
+    → reading ≡ record { answer = Ok 0; set = set }
 
 -- "On refusal the output is unchanged; on success only the counted front changes."
 abbrev pub WriteListKeeps : Type 0

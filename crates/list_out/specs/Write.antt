@@ -1,6 +1,6 @@
 -- Writing a set of processors as a list: "12 output too short, last".
 use Rattle.std.specs.Prelude.{ℕ, ◌≡◌, List, length}
-use Rattle.model.specs.declared.answer.Answer.{Answer}
+use Rattle.model.specs.Kinds.{Answer}
 use Rattle.model.specs.Answer.{output_after}
 use Rattle.model.specs.Rules.{Rule, first_broken, room_rules}
 use Rattle.list_form.specs.ListText.{list_text}

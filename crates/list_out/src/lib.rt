@@ -10,7 +10,7 @@ ghost use Rattle.list_form.specs.ListText.{item_text, list_text};
 ghost use Rattle.list_out.specs.Parts.{comma_at, run_text};
 ghost use Rattle.list_out.specs.Write.{WritesList};
 
-use model::{Answer, CallCause, Order, Refusal};
+use model::{CallCause, Order, Refusal};
 use put::{digits_in, put_byte, put_numeral};
 use sets::has;
 
@@ -143,13 +143,13 @@ fn put_list(out: &mut [u8], set: u64)
 }
 
 // A list from a set of processors: 12 alone.
-pub fn write_list(set: u64, out: &mut [u8]) -> Answer
+pub fn write_list(set: u64, out: &mut [u8]) -> Result<u32, Refusal>
     ensures { WritesList set out.old result out.new }
 {
     let size = list_bytes(set);
     if out.len() < size {
-        return Answer::Refused(Refusal::OfCall(CallCause::Output));
+        return Err(Refusal::OfCall(CallCause::Output));
     }
     put_list(out, set);
-    Answer::Done(size as u32)
+    Ok(size as u32)
 }

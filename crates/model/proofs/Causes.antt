@@ -1,4 +1,5 @@
 -- Of which kind the refusals of rules are.
+use Rattle.std.specs.Prelude.{Err}
 use mathlib.Core.Path.{◌≡◌, sym, subst}
 use mathlib.Core.Bool.{Bool, true, false}
 use mathlib.Core.List.{List, [], ◌∷◌, ◌++◌}
@@ -6,7 +7,7 @@ use mathlib.Core.Logic.{⊎_elim}
 use Prim.Native.Nat.{ℕ, zero, suc}
 use Rattle.laws.specs.Choice.{pick}
 use Rattle.laws.specs.Joined.{joined}
-use Rattle.model.specs.Kinds.{Refused, Refusal}
+use Rattle.model.specs.Kinds.{Refusal}
 use Rattle.model.specs.Rules.{Rule, first_broken, FirstOffence}
 use Rattle.model.proofs.Rules.{never}
 
@@ -26,12 +27,12 @@ module _ (kind : Refusal → Type 0) where
   each_joined f zero each = tt
   each_joined f (suc n) each = each_append (joined f n) (f n) (each_joined f n each) (each n)
 
-  pub refused_by : (count : ℕ) (rules : List Rule) (refusal : Refusal) → EachRefuses kind rules → first_broken count rules ≡ Refused refusal → kind refusal
+  pub refused_by : (count : ℕ) (rules : List Rule) (refusal : Refusal) → EachRefuses kind rules → first_broken count rules ≡ Err refusal → kind refusal
   unfolding first_broken EachRefuses
   refused_by count [] refusal each e = never (sym e)
   refused_by count (r ∷ rules) refusal each e = go (λ f. refused_by count rules refusal each.1 f) r.fact.test e
     where
-      go : (first_broken count rules ≡ Refused refusal → kind refusal) → (b : Bool) → pick b (first_broken count rules) (Refused r.refusal) ≡ Refused refusal → kind refusal
+      go : (first_broken count rules ≡ Err refusal → kind refusal) → (b : Bool) → pick b (first_broken count rules) (Err r.refusal) ≡ Err refusal → kind refusal
       go rest true f = rest f
       go rest false f = subst kind (cc f) each.0
 

@@ -1,9 +1,10 @@
 -- 7 to 10 of one task, and task by task: they hold exactly where each task is in range; and what that says of its cost.
+use Rattle.std.specs.Prelude.{Ok, Err}
 use mathlib.Core.Path.{◌≡◌}
 use mathlib.Core.List.{List}
 use Prim.Native.Nat.{ℕ, ◌+◌, ◌<◌}
 use Rattle.laws.specs.Joined.{joined}
-use Rattle.model.specs.Kinds.{Task, Order, Done, Refused, Refusal}
+use Rattle.model.specs.Kinds.{Task, Order, Refusal}
 use Rattle.model.specs.Limits.{task_of}
 use Rattle.model.specs.Rules.{Rule, first_broken, AllKept, TestsTell, task_rules, range_rules, TaskInRange, Sized}
 use Rattle.model.proofs.Rules.{AllPass, done_pass, kept_at, kept_all, scan_none, scan_more, scan_stop, tell_all, in_range_tells}
@@ -32,10 +33,10 @@ module _ (o : Order) where
   pub range_none : InTurn 0
   range_none = scan_none each
 
-  pub range_more : (i : ℕ) {count : ℕ} → InTurn i → first_broken 0 (each i) ≡ Done count → InTurn (i + 1)
+  pub range_more : (i : ℕ) {count : ℕ} → InTurn i → first_broken 0 (each i) ≡ Ok count → InTurn (i + 1)
   range_more i all e = scan_more each i all (done_pass 0 (each i) e)
 
-  pub range_stop : (i : ℕ) {refusal : Refusal} → i < o.tasks → InTurn i → first_broken 0 (each i) ≡ Refused refusal → first_broken 0 (range_rules o) ≡ Refused refusal
+  pub range_stop : (i : ℕ) {refusal : Refusal} → i < o.tasks → InTurn i → first_broken 0 (each i) ≡ Err refusal → first_broken 0 (range_rules o) ≡ Err refusal
   unfolding range_rules
   range_stop i {refusal} below all e = scan_stop each 0 o.tasks i refusal below all e
 

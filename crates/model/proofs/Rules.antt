@@ -1,4 +1,5 @@
 -- Laws of rules in order: their tests part by part, a scan index by index, and what the first broken one means.
+use Rattle.std.specs.Prelude.{Ok, Err}
 use mathlib.Core.Path.{◌≡◌, refl, sym, ap, ◌∙◌}
 use mathlib.Core.Bool.{Bool, true, false}
 use mathlib.Core.List.{List, [], ◌∷◌, ◌++◌}
@@ -11,10 +12,10 @@ use Rattle.laws.specs.Joined.{joined}
 use Rattle.laws.proofs.Choice.{within_true, true_within}
 use Rattle.laws.proofs.Every.{clash}
 use Rattle.laws.proofs.Joined.{joined_none, joined_more, joined_at}
-use Rattle.model.specs.Kinds.{Answer, Done, Refused, Refusal, OfCall, Output}
+use Rattle.model.specs.Kinds.{Answer, Refusal, OfCall, Output}
 use Rattle.model.specs.Rules.{Fact, Rule, rule, first_broken, AllKept, FirstOffence, RightAnswer, Tells, TestsTell, OneRightAnswer, equal, at_most, in_range, room_rules}
 
-pub never : {A : Type 0} {cause : Refusal} {count : ℕ} → Refused cause ≡ Done count → A
+pub never : {A : Type 0} {cause : Refusal} {count : ℕ} → Err cause ≡ Ok count → A
 never e = let z : ◌≡◌ {A = ℕ} 0 1 = cc in absurd (omega arith)
 
 -- every test passes
@@ -23,22 +24,22 @@ AllPass [] = Unit
 AllPass (r ∷ rules) = (r.fact.test ≡ true) × AllPass rules
 
 module _ (count : ℕ) where
-  pub pass_done : (rules : List Rule) → AllPass rules → first_broken count rules ≡ Done count
+  pub pass_done : (rules : List Rule) → AllPass rules → first_broken count rules ≡ Ok count
   unfolding first_broken AllPass
   pass_done [] all = refl
   pass_done (r ∷ rules) all = rw all.0 (pass_done rules all.1)
 
-  pub done_pass : (rules : List Rule) {other : ℕ} → first_broken count rules ≡ Done other → AllPass rules
+  pub done_pass : (rules : List Rule) {other : ℕ} → first_broken count rules ≡ Ok other → AllPass rules
   unfolding first_broken AllPass
   done_pass [] e = tt
-  done_pass (r ∷ rules) {other} e = go (λ (d : first_broken count rules ≡ Done other). done_pass rules d) r.fact.test refl e
+  done_pass (r ∷ rules) {other} e = go (λ (d : first_broken count rules ≡ Ok other). done_pass rules d) r.fact.test refl e
     where
-      go : (first_broken count rules ≡ Done other → AllPass rules) → (b : Bool) → r.fact.test ≡ b →
-          pick b (first_broken count rules) (Refused r.refusal) ≡ Done other → (r.fact.test ≡ true) × AllPass rules
+      go : (first_broken count rules ≡ Ok other → AllPass rules) → (b : Bool) → r.fact.test ≡ b →
+          pick b (first_broken count rules) (Err r.refusal) ≡ Ok other → (r.fact.test ≡ true) × AllPass rules
       go rest true h e = (h, rest e)
       go rest false h e = never e
 
-  pub done_count : (rules : List Rule) {other : ℕ} → first_broken count rules ≡ Done other → other ≡ count
+  pub done_count : (rules : List Rule) {other : ℕ} → first_broken count rules ≡ Ok other → other ≡ count
   done_count rules e = let d = pass_done rules (done_pass rules e) in cc
 
   -- what passes is passed over
@@ -48,24 +49,24 @@ module _ (count : ℕ) where
   pass_on (r ∷ a) b all = rw all.0 (pass_on a b all.1)
 
   -- a refusal stands, whatever rules follow
-  pub stop : (a b : List Rule) (refusal : Refusal) → first_broken count a ≡ Refused refusal → first_broken count (a ++ b) ≡ Refused refusal
+  pub stop : (a b : List Rule) (refusal : Refusal) → first_broken count a ≡ Err refusal → first_broken count (a ++ b) ≡ Err refusal
   unfolding first_broken
   stop [] b refusal e = never (sym e)
-  stop (r ∷ a) b refusal e = go (λ (d : first_broken count a ≡ Refused refusal). stop a b refusal d) r.fact.test e
+  stop (r ∷ a) b refusal e = go (λ (d : first_broken count a ≡ Err refusal). stop a b refusal d) r.fact.test e
     where
-      go : (first_broken count a ≡ Refused refusal → first_broken count (a ++ b) ≡ Refused refusal) → (test : Bool) →
-          pick test (first_broken count a) (Refused r.refusal) ≡ Refused refusal → pick test (first_broken count (a ++ b)) (Refused r.refusal) ≡ Refused refusal
+      go : (first_broken count a ≡ Err refusal → first_broken count (a ++ b) ≡ Err refusal) → (test : Bool) →
+          pick test (first_broken count a) (Err r.refusal) ≡ Err refusal → pick test (first_broken count (a ++ b)) (Err r.refusal) ≡ Err refusal
       go rest true e = rest e
       go rest false e = e
 
 -- a count plays no part in a refusal
-pub any_count : (count other : ℕ) (rules : List Rule) (refusal : Refusal) → first_broken count rules ≡ Refused refusal → first_broken other rules ≡ Refused refusal
+pub any_count : (count other : ℕ) (rules : List Rule) (refusal : Refusal) → first_broken count rules ≡ Err refusal → first_broken other rules ≡ Err refusal
 unfolding first_broken
 any_count count other [] refusal e = never (sym e)
-any_count count other (r ∷ rules) refusal e = go (λ (d : first_broken count rules ≡ Refused refusal). any_count count other rules refusal d) r.fact.test e
+any_count count other (r ∷ rules) refusal e = go (λ (d : first_broken count rules ≡ Err refusal). any_count count other rules refusal d) r.fact.test e
   where
-    go : (first_broken count rules ≡ Refused refusal → first_broken other rules ≡ Refused refusal) → (test : Bool) →
-        pick test (first_broken count rules) (Refused r.refusal) ≡ Refused refusal → pick test (first_broken other rules) (Refused r.refusal) ≡ Refused refusal
+    go : (first_broken count rules ≡ Err refusal → first_broken other rules ≡ Err refusal) → (test : Bool) →
+        pick test (first_broken count rules) (Err r.refusal) ≡ Err refusal → pick test (first_broken other rules) (Err r.refusal) ≡ Err refusal
     go rest true e = rest e
     go rest false e = e
 
@@ -93,7 +94,7 @@ module _ (f : ℕ → List Rule) where
   pub scan_more : (i : ℕ) → AllPass (joined f i) → AllPass (f i) → AllPass (joined f (i + 1))
   scan_more i all here = rw joined_more (pass_append (joined f i) (f i) all here)
 
-  pub scan_stop : (count n i : ℕ) (refusal : Refusal) → i < n → AllPass (joined f i) → first_broken count (f i) ≡ Refused refusal → first_broken count (joined f n) ≡ Refused refusal
+  pub scan_stop : (count n i : ℕ) (refusal : Refusal) → i < n → AllPass (joined f i) → first_broken count (f i) ≡ Err refusal → first_broken count (joined f n) ≡ Err refusal
   scan_stop count n i refusal below all e =
       let r = joined_at f n i below in
       rw r.1 (pass_on count (joined f i) (f i ++ r.0) all ∙ stop count (f i) r.0 refusal e)
@@ -120,7 +121,7 @@ module _ (fact : ℕ → Fact) (refusal : ℕ → Refusal) where
   unfolding AllPass
   each_more i all passes = scan_more each_rule i all (passes, tt)
 
-  pub each_stop : (count n i : ℕ) → i < n → AllPass (joined each_rule i) → (fact i).test ≡ false → first_broken count (joined each_rule n) ≡ Refused (refusal i)
+  pub each_stop : (count n i : ℕ) → i < n → AllPass (joined each_rule i) → (fact i).test ≡ false → first_broken count (joined each_rule n) ≡ Err (refusal i)
   unfolding first_broken
   each_stop count n i below all breaks = scan_stop each_rule count n i (refusal i) below all (rw breaks)
 
@@ -200,17 +201,17 @@ offence_at f (suc n) refusal offence =
     (offence_cut (joined f n) (f n) refusal offence)
 
 module _ (count : ℕ) where
-  pub refused_offence : (rules : List Rule) (refusal : Refusal) → TestsTell rules → first_broken count rules ≡ Refused refusal → FirstOffence rules refusal
+  pub refused_offence : (rules : List Rule) (refusal : Refusal) → TestsTell rules → first_broken count rules ≡ Err refusal → FirstOffence rules refusal
   unfolding TestsTell first_broken FirstOffence
   refused_offence [] refusal tell e = never (sym e)
-  refused_offence (r ∷ rules) refusal tell e = go (λ (t : TestsTell rules) (d : first_broken count rules ≡ Refused refusal). refused_offence rules refusal t d) r.fact.test refl e
+  refused_offence (r ∷ rules) refusal tell e = go (λ (t : TestsTell rules) (d : first_broken count rules ≡ Err refusal). refused_offence rules refusal t d) r.fact.test refl e
     where
-      go : (TestsTell rules → first_broken count rules ≡ Refused refusal → FirstOffence rules refusal) → (b : Bool) → r.fact.test ≡ b →
-          pick b (first_broken count rules) (Refused r.refusal) ≡ Refused refusal → ((r.fact.says → ⊥) × (r.refusal ≡ refusal)) ⊎ (r.fact.says × FirstOffence rules refusal)
+      go : (TestsTell rules → first_broken count rules ≡ Err refusal → FirstOffence rules refusal) → (b : Bool) → r.fact.test ≡ b →
+          pick b (first_broken count rules) (Err r.refusal) ≡ Err refusal → ((r.fact.says → ⊥) × (r.refusal ≡ refusal)) ⊎ (r.fact.says × FirstOffence rules refusal)
       go rest true h e = inr (tell.0.0 h, rest (tell.1 h) e)
       go rest false h e = let same : r.refusal ≡ refusal = cc in inl ((λ says. clash (sym h ∙ tell.0.1 says)), same)
 
-  pub offence_refused : (rules : List Rule) (refusal : Refusal) → TestsTell rules → FirstOffence rules refusal → first_broken count rules ≡ Refused refusal
+  pub offence_refused : (rules : List Rule) (refusal : Refusal) → TestsTell rules → FirstOffence rules refusal → first_broken count rules ≡ Err refusal
   unfolding TestsTell first_broken FirstOffence
   offence_refused [] refusal tell offence = absurd offence
   offence_refused (r ∷ rules) refusal tell offence =
@@ -219,19 +220,19 @@ module _ (count : ℕ) where
       (λ (later : r.fact.says × FirstOffence rules refusal). let h = tell.0.1 later.0 in rw h (offence_refused rules refusal (tell.1 h) later.1))
       offence
     where
-      here : (r.fact.says → ⊥) → r.refusal ≡ refusal → (b : Bool) → r.fact.test ≡ b → pick r.fact.test (first_broken count rules) (Refused r.refusal) ≡ Refused refusal
+      here : (r.fact.says → ⊥) → r.refusal ≡ refusal → (b : Bool) → r.fact.test ≡ b → pick r.fact.test (first_broken count rules) (Err r.refusal) ≡ Err refusal
       here broken same true h = absurd (broken (tell.0.0 h))
-      here broken same false h = rw h (ap Refused same)
+      here broken same false h = rw h (ap Err same)
 
   right_answer : (rules : List Rule) → TestsTell rules → (answer : Answer) → answer ≡ first_broken count rules → RightAnswer count rules answer
   unfolding RightAnswer
-  right_answer rules tell (Done written) e = (done_count count rules (sym e), pass_kept rules tell (done_pass count rules (sym e)))
-  right_answer rules tell (Refused refusal) e = refused_offence rules refusal tell (sym e)
+  right_answer rules tell (Ok written) e = (done_count count rules (sym e), pass_kept rules tell (done_pass count rules (sym e)))
+  right_answer rules tell (Err refusal) e = refused_offence rules refusal tell (sym e)
 
   answer_right : (rules : List Rule) → TestsTell rules → (answer : Answer) → RightAnswer count rules answer → answer ≡ first_broken count rules
   unfolding RightAnswer
-  answer_right rules tell (Done written) right = ap Done right.0 ∙ sym (pass_done count rules (kept_pass rules tell right.1))
-  answer_right rules tell (Refused refusal) right = sym (offence_refused rules refusal tell right)
+  answer_right rules tell (Ok written) right = ap Ok right.0 ∙ sym (pass_done count rules (kept_pass rules tell right.1))
+  answer_right rules tell (Err refusal) right = sym (offence_refused rules refusal tell right)
 
 pub one_right_answer : OneRightAnswer
 unfolding OneRightAnswer
@@ -248,11 +249,11 @@ pub in_range_tells : (least most x : ℕ) → Tells (in_range least most x)
 in_range_tells least most x = (within_true least most x, λ r. true_within least most x r.0 r.1)
 
 -- 12
-pub room_stop : (count size room : ℕ) → room < size → first_broken count (room_rules size room) ≡ Refused (OfCall Output)
+pub room_stop : (count size room : ℕ) → room < size → first_broken count (room_rules size room) ≡ Err (OfCall Output)
 unfolding room_rules first_broken
 room_stop count size room short = rw (lt-leb _ _ short)
 
-pub room_on : (count size room : ℕ) → size ≤ room → first_broken count (room_rules size room) ≡ Done count
+pub room_on : (count size room : ℕ) → size ≤ room → first_broken count (room_rules size room) ≡ Ok count
 unfolding room_rules first_broken
 room_on count size room fits = rw (le-leb _ _ fits)
 

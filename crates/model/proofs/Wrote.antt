@@ -1,9 +1,10 @@
 -- A call that writes the front of its output, 12 being its last rule: what is so where it is done.
+use Rattle.std.specs.Prelude.{Ok}
 use mathlib.Core.Path.{◌≡◌, sym, ap, ◌∙◌, subst}
 use mathlib.Core.List.{List, ◌++◌}
 use Prim.Native.Nat.{ℕ, ◌≤◌}
 use lib.ListN.{length, drop}
-use Rattle.model.specs.Kinds.{Answer, Done}
+use Rattle.model.specs.Kinds.{Answer}
 use Rattle.model.specs.Answer.{output_after, OnlyCountedFront}
 use Rattle.model.specs.Rules.{Rule, first_broken, room_rules}
 use Rattle.model.proofs.Output.{after_done, only_counted_front}
@@ -11,7 +12,7 @@ use Rattle.model.proofs.Rules.{AllPass, done_pass, done_count, pass_front, pass_
 
 module _ (rules : List Rule) (size : ℕ) (front output : List ℕ) (answer : Answer) (after : List ℕ)
     (answered : answer ≡ first_broken size (rules ++ room_rules size (length output))) (written : after ≡ output_after answer front output) where
-  module _ (count : ℕ) (e : answer ≡ Done count) where
+  module _ (count : ℕ) (e : answer ≡ Ok count) where
     passed : AllPass (rules ++ room_rules size (length output))
     passed = done_pass size (rules ++ room_rules size (length output)) (sym answered ∙ e)
 

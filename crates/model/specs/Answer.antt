@@ -1,6 +1,6 @@
 -- "Every answer has a number, a place and a count": those of each case, and what an answer leaves in the caller's output.
-use Rattle.std.specs.Prelude.{ℕ, ◌≡◌, List, ◌++◌, length, drop}
-use Rattle.model.specs.Kinds.{Answer, Done, Refused, Refusal, OfOrder, OfCall, OfBuild, OfScript, OfText, OfList, OfLate, OrderCause, OrderShort, OrderVersion, Processors, Tasks, OrderLength, HeaderSpare, TaskSpare, Width, Period, Deadline, RunTime, CallCause, FirstFit, Output, Columns, BuildCause, BuildShort, BuildMismatch, BuildLength, BuildSpare, PartitionPlace, TaskPartition, Rank, Window, Start, Late, Response, ScriptCause, ScriptLength, RecordSpare, RecordTask, RecordOrder, JobLength, ReleaseGap, FinishPlaces, TextCause, LineShape, LineNumber, LineCount, ListCause, ListShape, ListNumber, ListRange, ListLength, LateCause, NotLate, ManyRecords}
+use Rattle.std.specs.Prelude.{ℕ, ◌≡◌, List, ◌++◌, length, drop, Ok, Err}
+use Rattle.model.specs.Kinds.{Answer, Refusal, OfOrder, OfCall, OfBuild, OfScript, OfText, OfList, OfLate, OrderCause, OrderShort, OrderVersion, Processors, Tasks, OrderLength, HeaderSpare, TaskSpare, Width, Period, Deadline, RunTime, CallCause, FirstFit, Output, Columns, BuildCause, BuildShort, BuildMismatch, BuildLength, BuildSpare, PartitionPlace, TaskPartition, Rank, Window, Start, Late, Response, ScriptCause, ScriptLength, RecordSpare, RecordTask, RecordOrder, JobLength, ReleaseGap, FinishPlaces, TextCause, LineShape, LineNumber, LineCount, ListCause, ListShape, ListNumber, ListRange, ListLength, LateCause, NotLate, ManyRecords}
 
 -- "65,535 where none applies"
 abbrev pub no_place : ℕ
@@ -140,21 +140,21 @@ cause_place (OfLate cause) = late_place cause
 
 -- "0 means done: place 65,535, count of bytes or finish ticks written"; "Refusals have count 0"
 unfoldable pub answer_number : Answer → ℕ
-answer_number (Done count) = 0
-answer_number (Refused cause) = cause_number cause
+answer_number (Ok count) = 0
+answer_number (Err cause) = cause_number cause
 
 unfoldable pub answer_place : Answer → ℕ
-answer_place (Done count) = no_place
-answer_place (Refused cause) = cause_place cause
+answer_place (Ok count) = no_place
+answer_place (Err cause) = cause_place cause
 
 unfoldable pub answer_count : Answer → ℕ
-answer_count (Done count) = count
-answer_count (Refused cause) = 0
+answer_count (Ok count) = count
+answer_count (Err cause) = 0
 
 -- what the output holds after an answer, where the front is what a done call writes
 unfoldable pub output_after : Answer → List ℕ → List ℕ → List ℕ
-output_after (Done count) front output = front ++ drop count output
-output_after (Refused cause) front output = output
+output_after (Ok count) front output = front ++ drop count output
+output_after (Err cause) front output = output
 
 -- "On refusal the output is unchanged; on success only the counted front changes."
 pub record OnlyCountedFront (answer : Answer) (before after : List ℕ) : Type 0 where

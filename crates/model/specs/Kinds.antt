@@ -1,4 +1,5 @@
 -- The declared kinds under one name each.
+use Rattle.std.specs.Prelude.{ℕ, Result}
 pub use Rattle.model.specs.declared.order.Task.{Task}
 pub use Rattle.model.specs.declared.order.Order.{Order}
 pub use Rattle.model.specs.declared.build.Partition.{Partition}
@@ -6,8 +7,6 @@ pub use Rattle.model.specs.declared.build.Member.{Member}
 pub use Rattle.model.specs.declared.build.Build.{Build}
 pub use Rattle.model.specs.declared.build.Release.{Release}
 pub use Rattle.model.specs.declared.answer.Reading.{Reading}
-pub use Rattle.model.specs.declared.answer.Answer.{Answer}
-pub use Rattle.model.specs.declared.answer.Answer.TheVariants.{Done, Refused}
 pub use Rattle.model.specs.declared.answer.Refusal.{Refusal}
 pub use Rattle.model.specs.declared.answer.Refusal.TheVariants.{OfOrder, OfCall, OfBuild, OfScript, OfText, OfList, OfLate}
 pub use Rattle.model.specs.declared.answer.OrderCause.{OrderCause}
@@ -24,3 +23,7 @@ pub use Rattle.model.specs.declared.answer.ListCause.{ListCause}
 pub use Rattle.model.specs.declared.answer.ListCause.TheVariants.{ListShape, ListNumber, ListRange, ListLength}
 pub use Rattle.model.specs.declared.answer.LateCause.{LateCause}
 pub use Rattle.model.specs.declared.answer.LateCause.TheVariants.{NotLate, ManyRecords}
+
+-- "0 means done: .. count of bytes or finish ticks written"; or one refusal
+abbrev pub Answer : Type 0
+Answer = Result ℕ Refusal

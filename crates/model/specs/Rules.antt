@@ -1,8 +1,8 @@
 -- Rules in document order, each with what it says; the answer that they give: the first broken one refuses.
-use Rattle.std.specs.Prelude.{ℕ, ◌≤◌, ◌<◌, leb, eqb, length, ◌≡◌, Bool, true, List, [], ◌∷◌, ◌↔◌, ◌⊎◌}
+use Rattle.std.specs.Prelude.{ℕ, ◌≤◌, ◌<◌, leb, eqb, length, ◌≡◌, Bool, true, List, [], ◌∷◌, ◌↔◌, ◌⊎◌, Ok, Err}
 use Rattle.laws.specs.Choice.{pick, within}
 use Rattle.laws.specs.Joined.{joined}
-use Rattle.model.specs.Kinds.{Task, Order, Answer, Done, Refused, Refusal, OfOrder, OfCall, Width, Period, Deadline, RunTime, Output}
+use Rattle.model.specs.Kinds.{Task, Order, Answer, Refusal, OfOrder, OfCall, Width, Period, Deadline, RunTime, Output}
 use Rattle.model.specs.Limits.{most_tasks, most_processors, most_period, zero_task, task_of, cost}
 
 -- what a rule asks: what it says, and the test of it
@@ -20,8 +20,8 @@ rule fact refusal = record { fact = fact; refusal = refusal }
 
 -- done with the count if every rule's test passes, else refused by the first that does not
 unfoldable pub first_broken : ℕ → List Rule → Answer
-first_broken count [] = Done count
-first_broken count (r ∷ rules) = pick r.fact.test (first_broken count rules) (Refused r.refusal)
+first_broken count [] = Ok count
+first_broken count (r ∷ rules) = pick r.fact.test (first_broken count rules) (Err r.refusal)
 
 -- every rule holds
 unfoldable pub AllKept : List Rule → Type 0
@@ -35,8 +35,8 @@ FirstOffence (r ∷ rules) refusal = ((r.fact.says → ⊥) × (r.refusal ≡ re
 
 -- done with the count where every rule holds; refused by the first that does not
 unfoldable pub RightAnswer : ℕ → List Rule → Answer → Type 0
-RightAnswer count rules (Done written) = (written ≡ count) × AllKept rules
-RightAnswer count rules (Refused refusal) = FirstOffence rules refusal
+RightAnswer count rules (Ok written) = (written ≡ count) × AllKept rules
+RightAnswer count rules (Err refusal) = FirstOffence rules refusal
 
 -- a test tells whether what it tests is so
 abbrev pub Tells : Fact → Type 0

@@ -1,4 +1,5 @@
-// The answers, and the causes of refusals by the thing refused; specs/Answer.antt gives each its number and place.
+// The causes of refusals by the thing refused; specs/Answer.antt gives each its number and place. An answer is a Result:
+// the count of bytes or finish ticks written, or one refusal.
 ghost use Rattle.std.specs.Prelude.{◌≡◌};
 ghost use Rattle.model.specs.Answer.{order_number, order_place, call_number, call_place, build_number, build_place, script_number, script_place, text_number, text_place, list_number, list_place, late_number, late_place, cause_number, cause_place};
 
@@ -320,16 +321,9 @@ impl Refusal {
     }
 }
 
-// Done, with the count of bytes or finish ticks written; or refused, for one cause.
-#[derive(Clone, Copy)]
-pub enum Answer {
-    Done(u32),
-    Refused(Refusal),
-}
-
 // What reading an order gives; where it is refused, the order is empty.
 #[derive(Clone, Copy)]
 pub struct Reading {
-    pub answer: Answer,
+    pub answer: Result<u32, Refusal>,
     pub order: Order,
 }

@@ -7,7 +7,7 @@ mod numbers;
 mod order;
 
 pub use answer::{
-    Answer, BuildCause, CallCause, LateCause, ListCause, OrderCause, Reading, Refusal, ScriptCause,
+    BuildCause, CallCause, LateCause, ListCause, OrderCause, Reading, Refusal, ScriptCause,
     TextCause,
 };
 pub use build::{Build, Member, Partition, Release};

@@ -4,7 +4,7 @@ ghost use Rattle.model.specs.Limits.{zero_task, empty_order, cost};
 ghost use Rattle.model.specs.Layouts.{order_length};
 ghost use Rattle.model.specs.Rules.{first_broken, task_rules, range_rules};
 
-use crate::{Answer, OrderCause, Refusal, within};
+use crate::{OrderCause, Refusal, within};
 
 // A rigid sporadic gang: width m, period T, deadline D, run time C.
 #[derive(Clone, Copy)]
@@ -44,22 +44,22 @@ impl Task {
     }
 
     // 7 to 10 of this task, in turn.
-    pub fn judge(self, processors: u32, number: u16) -> Answer
+    pub fn judge(self, processors: u32, number: u16) -> Result<u32, Refusal>
         ensures { result ≡ first_broken 0 (task_rules processors self number) }
     {
         if !within(1, processors, self.width) {
-            return Answer::Refused(Refusal::OfOrder(OrderCause::Width(number)));
+            return Err(Refusal::OfOrder(OrderCause::Width(number)));
         }
         if !within(1, Task::MOST_PERIOD, self.period) {
-            return Answer::Refused(Refusal::OfOrder(OrderCause::Period(number)));
+            return Err(Refusal::OfOrder(OrderCause::Period(number)));
         }
         if !within(1, self.period, self.deadline) {
-            return Answer::Refused(Refusal::OfOrder(OrderCause::Deadline(number)));
+            return Err(Refusal::OfOrder(OrderCause::Deadline(number)));
         }
         if !within(1, self.deadline, self.cost()) {
-            return Answer::Refused(Refusal::OfOrder(OrderCause::RunTime(number)));
+            return Err(Refusal::OfOrder(OrderCause::RunTime(number)));
         }
-        Answer::Done(0)
+        Ok(0)
     }
 }
 
@@ -101,7 +101,7 @@ impl Order {
     }
 
     // 7 to 10, task by task.
-    pub fn judge(self) -> Answer
+    pub fn judge(self) -> Result<u32, Refusal>
         requires { self.tasks ≤ 32 }
         ensures { result ≡ first_broken 0 (range_rules self) }
     {
@@ -110,11 +110,11 @@ impl Order {
         while i < tasks {
             let task = self.table[i];
             let judged = task.judge(self.processors, i as u16);
-            if let Answer::Refused(cause) = judged {
-                return Answer::Refused(cause);
+            if let Err(cause) = judged {
+                return Err(cause);
             }
             i += 1;
         }
-        Answer::Done(0)
+        Ok(0)
     }
 }

@@ -1,12 +1,12 @@
 -- What an accepted reading says: its answer, its order, and that the order is within the limits.
+use Rattle.std.specs.Prelude.{Ok, Err}
 use mathlib.Core.Path.{◌≡◌, refl, sym, ◌∙◌}
 use mathlib.Core.List.{List}
 use Prim.Native.Nat.{ℕ, ◌<◌}
 use lib.ListN.{length}
 use Rattle.laws.proofs.Filled.{length-filled, filled_past}
 use Rattle.model.specs.declared.order.Order.{Order}
-use Rattle.model.specs.declared.answer.Answer.{Answer}
-use Rattle.model.specs.declared.answer.Answer.TheVariants.{Done, Refused}
+use Rattle.model.specs.Kinds.{Answer}
 use Rattle.model.specs.Limits.{most_tasks, zero_task}
 use Rattle.model.specs.Rules.{first_broken, range_rules, WithinLimits}
 use Rattle.model.proofs.Rules.{AllPass, done_pass, pass_front, pass_rest, pass_kept}
@@ -15,14 +15,14 @@ use Rattle.order.specs.Order.{header_of, task_at, task_spare_at, order_at, heade
 use Rattle.order.proofs.Rules.{HeaderSound, header_sound, spare_at_lem}
 
 answer_of : (a : Answer) (o : Order) → (reading_of a o).answer ≡ a
-answer_of (Done count) o = refl
-answer_of (Refused cause) o = refl
+answer_of (Ok count) o = refl
+answer_of (Err cause) o = refl
 
 pub read_answer : (s : List ℕ) → (read_order s).answer ≡ first_broken 0 (order_rules s)
 unfolding read_order
 read_answer s = answer_of (first_broken 0 (order_rules s)) (order_at s)
 
-module _ (s : List ℕ) {count : ℕ} (done : (read_order s).answer ≡ Done count) where
+module _ (s : List ℕ) {count : ℕ} (done : (read_order s).answer ≡ Ok count) where
   pub read_rules : AllPass (order_rules s)
   read_rules = done_pass 0 (order_rules s) (sym (read_answer s) ∙ done)
 

@@ -1,4 +1,5 @@
 -- Laws of the order's rules: the scan of the spare bits, what an accepted header says, the parts in turn, and that each test tells.
+use Rattle.std.specs.Prelude.{Ok, Err}
 use mathlib.Core.Path.{◌≡◌}
 use mathlib.Core.List.{List}
 use Prim.Native.Nat.{ℕ, ◌+◌, ◌≤◌, ◌<◌}
@@ -6,7 +7,6 @@ use lib.ListN.{length}
 use borrow.Author.Tests.{eq-eqb, ne_eqb, eqb-true}
 use Rattle.bits.specs.Layout.{bytes_in, numbers_at}
 use Rattle.bits.proofs.Field.{field_lt}
-use Rattle.model.specs.declared.answer.Answer.TheVariants.{Done, Refused}
 use Rattle.model.specs.declared.answer.Refusal.{Refusal}
 use Rattle.model.specs.declared.answer.Refusal.TheVariants.{OfOrder}
 use Rattle.model.specs.declared.answer.OrderCause.TheVariants.{TaskSpare}
@@ -34,7 +34,7 @@ module _ (s : List ℕ) where
   unfolding spare_rules
   spare_more i all e = each_more spare refusal i all (eq-eqb _ _ e)
 
-  pub spare_stop : (tasks i : ℕ) → i < tasks → AllPass (spare_rules s i) → (task_spare_at s i ≡ 0 → ⊥) → first_broken 0 (spare_rules s tasks) ≡ Refused (OfOrder (TaskSpare i))
+  pub spare_stop : (tasks i : ℕ) → i < tasks → AllPass (spare_rules s i) → (task_spare_at s i ≡ 0 → ⊥) → first_broken 0 (spare_rules s tasks) ≡ Err (OfOrder (TaskSpare i))
   unfolding spare_rules
   spare_stop tasks i below all e = each_stop spare refusal 0 tasks i below all (ne_eqb _ _ e)
 
@@ -67,23 +67,23 @@ header_sound size header all =
 
 -- the reader's branches
 module _ (s : List ℕ) where
-  pub layout_stop : {cause : Refusal} → first_broken 0 (header_rules (length s) (header_of s)) ≡ Refused cause → first_broken 0 (layout_rules s) ≡ Refused cause
+  pub layout_stop : {cause : Refusal} → first_broken 0 (header_rules (length s) (header_of s)) ≡ Err cause → first_broken 0 (layout_rules s) ≡ Err cause
   unfolding layout_rules
   layout_stop {cause} e = stop 0 (header_rules (length s) (header_of s)) (spare_rules s (header_of s).tasks) cause e
 
-  pub layout_on : {count : ℕ} → first_broken 0 (header_rules (length s) (header_of s)) ≡ Done count → first_broken 0 (layout_rules s) ≡ first_broken 0 (spare_rules s (header_of s).tasks)
+  pub layout_on : {count : ℕ} → first_broken 0 (header_rules (length s) (header_of s)) ≡ Ok count → first_broken 0 (layout_rules s) ≡ first_broken 0 (spare_rules s (header_of s).tasks)
   unfolding layout_rules
   layout_on e = pass_on 0 (header_rules (length s) (header_of s)) (spare_rules s (header_of s).tasks) (done_pass 0 (header_rules (length s) (header_of s)) e)
 
-  pub read_stop : {cause : Refusal} → first_broken 0 (layout_rules s) ≡ Refused cause → refused_reading cause ≡ read_order s
+  pub read_stop : {cause : Refusal} → first_broken 0 (layout_rules s) ≡ Err cause → refused_reading cause ≡ read_order s
   unfolding read_order order_rules
   read_stop {cause} e = rw (stop 0 (layout_rules s) (range_rules (order_at s)) cause e)
 
-  pub read_range : {count : ℕ} {cause : Refusal} → first_broken 0 (layout_rules s) ≡ Done count → first_broken 0 (range_rules (order_at s)) ≡ Refused cause → refused_reading cause ≡ read_order s
+  pub read_range : {count : ℕ} {cause : Refusal} → first_broken 0 (layout_rules s) ≡ Ok count → first_broken 0 (range_rules (order_at s)) ≡ Err cause → refused_reading cause ≡ read_order s
   unfolding read_order order_rules
   read_range e r = rw (pass_on 0 (layout_rules s) (range_rules (order_at s)) (done_pass 0 (layout_rules s) e), r)
 
-  pub read_done : {count other : ℕ} → first_broken 0 (layout_rules s) ≡ Done count → first_broken 0 (range_rules (order_at s)) ≡ Done other → record { answer = Done 0; order = order_at s } ≡ read_order s
+  pub read_done : {count other : ℕ} → first_broken 0 (layout_rules s) ≡ Ok count → first_broken 0 (range_rules (order_at s)) ≡ Ok other → record { answer = Ok 0; order = order_at s } ≡ read_order s
   unfolding read_order order_rules
   read_done e r = rw (pass_on 0 (layout_rules s) (range_rules (order_at s)) (done_pass 0 (layout_rules s) e), pass_done 0 (range_rules (order_at s)) (done_pass 0 (range_rules (order_at s)) r))
 

@@ -1,12 +1,11 @@
 -- "Bits on the wire", the order: its records, its bytes, the rules in the order of their numbers, and what a reading gives.
-use Rattle.std.specs.Prelude.{ℕ, ◌*◌, ◌≡◌, List, [], ◌∷◌, ◌++◌, length, get_or}
+use Rattle.std.specs.Prelude.{ℕ, ◌*◌, ◌≡◌, List, [], ◌∷◌, ◌++◌, length, get_or, Ok, Err}
 use Rattle.laws.specs.Joined.{joined, filled}
 use Rattle.bits.specs.Layout.{bytes_in, record_bytes, numbers_at}
 use Rattle.model.specs.declared.order.Task.{Task}
 use Rattle.model.specs.declared.order.Order.{Order}
 use Rattle.model.specs.declared.answer.Reading.{Reading}
-use Rattle.model.specs.declared.answer.Answer.{Answer}
-use Rattle.model.specs.declared.answer.Answer.TheVariants.{Done, Refused}
+use Rattle.model.specs.Kinds.{Answer}
 use Rattle.model.specs.declared.answer.Refusal.{Refusal}
 use Rattle.model.specs.declared.answer.Refusal.TheVariants.{OfOrder}
 use Rattle.model.specs.declared.answer.OrderCause.TheVariants.{OrderShort, OrderVersion, Processors, Tasks, OrderLength, HeaderSpare, TaskSpare}
@@ -94,11 +93,11 @@ order_rules s = layout_rules s ++ range_rules (order_at s)
 
 -- "An order read gives M, n and the table, zero past its n tasks; when it is refused all three are zero."
 abbrev pub refused_reading : Refusal → Reading
-refused_reading cause = record { answer = Refused cause; order = empty_order }
+refused_reading cause = record { answer = Err cause; order = empty_order }
 
 abbrev pub reading_of : Answer → Order → Reading
-reading_of (Done count) order = record { answer = Done count; order = order }
-reading_of (Refused cause) order = refused_reading cause
+reading_of (Ok count) order = record { answer = Ok count; order = order }
+reading_of (Err cause) order = refused_reading cause
 
 unfoldable pub read_order : List ℕ → Reading
 read_order s = reading_of (first_broken 0 (order_rules s)) (order_at s)

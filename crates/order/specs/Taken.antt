@@ -1,10 +1,9 @@
 -- "A reader that holds the order's bytes takes its fields front to back": what each field and each record taken holds, and that the next one begins where it ends.
-use Rattle.std.specs.Prelude.{ℕ, ◌+◌, ◌≡◌, List}
+use Rattle.std.specs.Prelude.{ℕ, ◌+◌, ◌≡◌, List, Ok}
 use Rattle.laws.specs.Joined.{filled}
 use Rattle.bits.specs.Field.{field}
 use Rattle.bits.specs.Layout.{bits_in}
 use Rattle.bits.specs.declared.Taken.{Taken}
-use Rattle.model.specs.declared.answer.Answer.TheVariants.{Done}
 use Rattle.model.specs.Limits.{most_tasks, zero_task}
 use Rattle.model.specs.Layouts.{order_header, task_record}
 use Rattle.model.specs.Rules.{first_broken}
@@ -24,7 +23,7 @@ TakesTask s at taken = (i : ℕ) → at ≡ task_start i → (taken.task ≡ tas
 abbrev pub TakesTable : List ℕ → ℕ → TableTaken → Type 0
 TakesTable s tasks taken =
     (taken.spares ≡ first_broken 0 (spare_rules s tasks))
-    × ((count : ℕ) → taken.spares ≡ Done count → taken.table ≡ filled (task_at s) zero_task most_tasks tasks)
+    × ((count : ℕ) → taken.spares ≡ Ok count → taken.table ≡ filled (task_at s) zero_task most_tasks tasks)
 
 -- the first task's record begins where the header ends, and each next one where the one before ends
 abbrev pub FrontToBack : Type 0

@@ -9,7 +9,7 @@ ghost use Rattle.model.specs.Rules.{first_broken};
 ghost use Rattle.order.specs.Order.{task_start, header_of, header_rules, refused_reading, Reads};
 ghost use Rattle.order.specs.Taken.{TakesTask, TakesTable};
 
-use model::{Answer, Order, OrderCause, Reading, Refusal, Task};
+use model::{Order, OrderCause, Reading, Refusal, Task};
 use reader::take_field;
 
 // The header's fields.
@@ -32,7 +32,7 @@ pub struct TaskTaken {
 // The tasks' records taken: 6 of the tasks, and the table.
 #[derive(Clone, Copy)]
 pub struct TableTaken {
-    pub spares: Answer,
+    pub spares: Result<u32, Refusal>,
     pub table: [Task; Order::MOST_TASKS],
 }
 
@@ -86,7 +86,7 @@ fn read_table(order: &[u8], tasks: usize) -> TableTaken
         let taken = read_task(order, at);
         if taken.spare != 0 {
             return TableTaken {
-                spares: Answer::Refused(Refusal::OfOrder(OrderCause::TaskSpare(i as u16))),
+                spares: Err(Refusal::OfOrder(OrderCause::TaskSpare(i as u16))),
                 table,
             };
         }
@@ -96,35 +96,35 @@ fn read_table(order: &[u8], tasks: usize) -> TableTaken
         i += 1;
     }
     TableTaken {
-        spares: Answer::Done(0),
+        spares: Ok(0),
         table,
     }
 }
 
 // 1 to 5, and 6 of the header.
-fn judge_header(size: usize, header: Header) -> Answer
+fn judge_header(size: usize, header: Header) -> Result<u32, Refusal>
     requires { header.tasks < 2 ^ 6 }
     ensures { result ≡ first_broken 0 (header_rules size header) }
 {
     if size < Order::HEADER_BYTES {
-        return Answer::Refused(Refusal::OfOrder(OrderCause::OrderShort));
+        return Err(Refusal::OfOrder(OrderCause::OrderShort));
     }
     if header.version != 1 {
-        return Answer::Refused(Refusal::OfOrder(OrderCause::OrderVersion));
+        return Err(Refusal::OfOrder(OrderCause::OrderVersion));
     }
     if !model::within(1, Order::MOST_PROCESSORS, header.processors) {
-        return Answer::Refused(Refusal::OfOrder(OrderCause::Processors));
+        return Err(Refusal::OfOrder(OrderCause::Processors));
     }
     if !model::within(1, Order::MOST_TASKS as u32, header.tasks) {
-        return Answer::Refused(Refusal::OfOrder(OrderCause::Tasks));
+        return Err(Refusal::OfOrder(OrderCause::Tasks));
     }
     if size != Order::bytes(header.tasks as usize) {
-        return Answer::Refused(Refusal::OfOrder(OrderCause::OrderLength));
+        return Err(Refusal::OfOrder(OrderCause::OrderLength));
     }
     if header.spare != 0 {
-        return Answer::Refused(Refusal::OfOrder(OrderCause::HeaderSpare));
+        return Err(Refusal::OfOrder(OrderCause::HeaderSpare));
     }
-    Answer::Done(0)
+    Ok(0)
 }
 
 // A refused reading has M, n and the table zero.
@@ -132,7 +132,7 @@ fn refused(cause: Refusal) -> Reading
     ensures { result ≡ refused_reading cause }
 {
     Reading {
-        answer: Answer::Refused(cause),
+        answer: Err(cause),
         order: Order::empty(),
     }
 }
@@ -143,12 +143,12 @@ pub fn read_order(order: &[u8]) -> Reading
 {
     let header = read_header(order);
     let layout = judge_header(order.len(), header);
-    if let Answer::Refused(cause) = layout {
+    if let Err(cause) = layout {
         return refused(cause);
     }
     let records = read_table(order, header.tasks as usize);
     let spares = records.spares;
-    if let Answer::Refused(cause) = spares {
+    if let Err(cause) = spares {
         return refused(cause);
     }
     let table = records.table;
@@ -159,9 +159,9 @@ pub fn read_order(order: &[u8]) -> Reading
     };
     let judged = read.judge();
     match judged {
-        Answer::Refused(cause) => refused(cause),
-        Answer::Done(_) => Reading {
-            answer: Answer::Done(0),
+        Err(cause) => refused(cause),
+        Ok(_) => Reading {
+            answer: Ok(0),
             order: read,
         },
     }

@@ -1,4 +1,5 @@
 -- An order's bytes read back: the header, each record, then the whole order.
+use Rattle.std.specs.Prelude.{Ok}
 use mathlib.Core.Path.{◌≡◌, refl, ap, ◌∙◌}
 use mathlib.Core.List.{List, [], ◌++◌, append-nil}
 use Prim.Native.Nat.{ℕ, ◌<◌}
@@ -9,7 +10,6 @@ use Rattle.laws.proofs.Filled.{filled_same, filled_all, drop-part}
 use Rattle.bits.specs.Layout.{record_bytes}
 use Rattle.bits.proofs.Records.{reads_back, length_record}
 use Rattle.model.specs.declared.order.Order.{Order}
-use Rattle.model.specs.declared.answer.Answer.TheVariants.{Done}
 use Rattle.model.specs.Limits.{most_tasks, zero_task, task_of}
 use Rattle.model.specs.Layouts.{order_header, task_record}
 use Rattle.model.specs.Rules.{AllKept, range_rules, WithinLimits}
@@ -72,6 +72,6 @@ module _ (o : Order) (limits : WithinLimits o) where
   unfolding order_rules layout_rules
   rules_kept = kept_append _ _ (kept_append _ _ header_kept spares_kept) ranges_kept
 
-  pub bytes_read_back : read_order (order_bytes o) ≡ record { answer = Done 0; order = o }
+  pub bytes_read_back : read_order (order_bytes o) ≡ record { answer = Ok 0; order = o }
   unfolding read_order
   bytes_read_back = rw (pass_done 0 (order_rules (order_bytes o)) (kept_pass _ (order_tells (order_bytes o)) rules_kept), order_back)

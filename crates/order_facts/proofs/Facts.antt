@@ -1,4 +1,5 @@
 -- The claims of specs/Claims.antt, proved.
+use Rattle.std.specs.Prelude.{Ok}
 use mathlib.Core.Path.{◌≡◌, sym, ap, ◌∙◌, subst}
 use mathlib.Core.List.{List, ◌++◌}
 use Prim.Native.Nat.{ℕ, ◌≤◌, min}
@@ -8,8 +9,7 @@ use lib.Seq.{take_at}
 use Rattle.laws.proofs.Filled.{length-filled, filled_past}
 use Rattle.model.specs.declared.order.Order.{Order}
 use Rattle.model.specs.declared.answer.Reading.{Reading}
-use Rattle.model.specs.declared.answer.Answer.{Answer}
-use Rattle.model.specs.declared.answer.Answer.TheVariants.{Done}
+use Rattle.model.specs.Kinds.{Answer}
 use Rattle.model.specs.Answer.{output_after}
 use Rattle.model.specs.Limits.{most_tasks, zero_task}
 use Rattle.model.specs.Layouts.{order_length}
@@ -68,7 +68,7 @@ unfolding read_order
 refused_reads_zero s refusal e = rw (sym (read_answer s) ∙ e)
 
 -- an accepted write: every rule holds
-module _ (processors : ℕ) (c : TaskColumns) (output : List ℕ) (answer : Answer) (after : List ℕ) (count : ℕ) (w : Writes processors c output answer after) (e : answer ≡ Done count) where
+module _ (processors : ℕ) (c : TaskColumns) (output : List ℕ) (answer : Answer) (after : List ℕ) (count : ℕ) (w : Writes processors c output answer after) (e : answer ≡ Ok count) where
   abbrev order : Order
   order = column_order processors c
 
@@ -100,7 +100,7 @@ module _ (processors : ℕ) (c : TaskColumns) (output : List ℕ) (answer : Answ
   unfolding written_rules room_rules AllKept
   room = (kept_rest (range_rules order) (room_rules size (length output)) written_kept.1.1).0
 
-  gives_back : read_order (take count after) ≡ record { answer = Done 0; order = order }
+  gives_back : read_order (take count after) ≡ record { answer = Ok 0; order = order }
   gives_back =
       let front : after ≡ order_bytes order ++ drop count output = w.written ∙ ap (λ (a : Answer). output_after a (order_bytes order) output) e ∙ after_done count (order_bytes order) output in
       rw (front, take_at (order_bytes order) (drop count output) count (length_order order ∙ sym counted)) (bytes_read_back order limits)

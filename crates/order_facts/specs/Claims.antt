@@ -1,10 +1,9 @@
 -- Conditions 1 and 2 for orders, in the document's words; proved in proofs/.
-use Rattle.std.specs.Prelude.{ℕ, ◌≡◌, List, ◌↔◌, take}
+use Rattle.std.specs.Prelude.{ℕ, ◌≡◌, List, ◌↔◌, take, Ok, Err}
 use Rattle.bits.specs.Layout.{Bytes}
 use Rattle.model.specs.declared.order.Order.{Order}
 use Rattle.model.specs.declared.answer.Reading.{Reading}
-use Rattle.model.specs.declared.answer.Answer.{Answer}
-use Rattle.model.specs.declared.answer.Answer.TheVariants.{Done, Refused}
+use Rattle.model.specs.Kinds.{Answer}
 use Rattle.model.specs.declared.answer.Refusal.{Refusal}
 use Rattle.model.specs.Answer.{OnlyCountedFront}
 use Rattle.model.specs.Limits.{empty_order}
@@ -16,20 +15,20 @@ use Rattle.order_out.specs.Write.{TaskColumns, column_order, write_rules, write_
 -- "reading gives back what was written": M, n and the table
 abbrev pub ReadingGivesBack : Type 0
 ReadingGivesBack = (processors : ℕ) (c : TaskColumns) (output : List ℕ) (answer : Answer) (after : List ℕ) (count : ℕ)
-    → Writes processors c output answer after → answer ≡ Done count
-    → read_order (take count after) ≡ record { answer = Done 0; order = column_order processors c }
+    → Writes processors c output answer after → answer ≡ Ok count
+    → read_order (take count after) ≡ record { answer = Ok 0; order = column_order processors c }
 
 -- the bytes of an order within the limits read as that order
 abbrev pub BytesReadBack : Type 0
-BytesReadBack = (o : Order) → WithinLimits o → read_order (order_bytes o) ≡ record { answer = Done 0; order = o }
+BytesReadBack = (o : Order) → WithinLimits o → read_order (order_bytes o) ≡ record { answer = Ok 0; order = o }
 
 -- an order is accepted exactly when it is the bytes of an order within the limits
 abbrev pub AcceptedExactly : Type 0
-AcceptedExactly = (s : List ℕ) → Bytes s → ((read_order s).answer ≡ Done 0) ↔ ((o : Order) × WithinLimits o × (s ≡ order_bytes o))
+AcceptedExactly = (s : List ℕ) → Bytes s → ((read_order s).answer ≡ Ok 0) ↔ ((o : Order) × WithinLimits o × (s ≡ order_bytes o))
 
 -- what an accepted order reads as is within the limits
 abbrev pub AcceptedWithinLimits : Type 0
-AcceptedWithinLimits = (s : List ℕ) → (read_order s).answer ≡ Done 0 → WithinLimits (read_order s).order
+AcceptedWithinLimits = (s : List ℕ) → (read_order s).answer ≡ Ok 0 → WithinLimits (read_order s).order
 
 -- "for that cause only": one answer is right, by the rule that is broken first, and it is the reader's
 abbrev pub OneReading : Type 0
@@ -46,7 +45,7 @@ OneWritten = (o : Order) (room : ℕ) (answer : Answer)
 
 -- "when it is refused all three are zero"
 abbrev pub RefusedReadsZero : Type 0
-RefusedReadsZero = (s : List ℕ) (refusal : Refusal) → (read_order s).answer ≡ Refused refusal → (read_order s).order ≡ empty_order
+RefusedReadsZero = (s : List ℕ) (refusal : Refusal) → (read_order s).answer ≡ Err refusal → (read_order s).order ≡ empty_order
 
 -- "On refusal the output is unchanged; on success only the counted front changes."
 abbrev pub WritesOnlyCountedFront : Type 0

@@ -1,4 +1,5 @@
 -- Laws of the writer's rules: tasks in range fit their fields, the parts in turn, and that each test tells.
+use Rattle.std.specs.Prelude.{Ok, Err}
 use mathlib.Core.Path.{◌≡◌, sym}
 use mathlib.Core.Bool.{true}
 use Prim.Native.Nat.{ℕ, ◌≤◌}
@@ -11,7 +12,6 @@ use Rattle.laws.proofs.Choice.{both}
 use Rattle.bits.specs.Layout.{FitIn}
 use Rattle.model.specs.declared.order.Task.{Task}
 use Rattle.model.specs.declared.order.Order.{Order}
-use Rattle.model.specs.declared.answer.Answer.TheVariants.{Done, Refused}
 use Rattle.model.specs.declared.answer.Refusal.{Refusal}
 use Rattle.model.specs.Limits.{most_tasks, most_processors, task_of, cost}
 use Rattle.model.specs.Layouts.{task_record, order_length}
@@ -42,11 +42,11 @@ module _ (o : Order) (room : ℕ) (processors : within 1 most_processors o.proce
   abbrev size : ℕ
   size = order_length 1 o.tasks
 
-  pub written_stop : {refusal : Refusal} → first_broken 0 (range_rules o) ≡ Refused refusal → first_broken size (written_rules o room) ≡ Refused refusal
+  pub written_stop : {refusal : Refusal} → first_broken 0 (range_rules o) ≡ Err refusal → first_broken size (written_rules o room) ≡ Err refusal
   unfolding written_rules first_broken
   written_stop {refusal} e = rw (processors, tasks) (stop size (range_rules o) _ refusal (any_count 0 size (range_rules o) refusal e))
 
-  pub written_on : {count : ℕ} → first_broken 0 (range_rules o) ≡ Done count → first_broken size (written_rules o room) ≡ first_broken size (room_rules size room)
+  pub written_on : {count : ℕ} → first_broken 0 (range_rules o) ≡ Ok count → first_broken size (written_rules o room) ≡ first_broken size (room_rules size room)
   unfolding written_rules first_broken
   written_on e = rw (processors, tasks) (pass_on size (range_rules o) _ (done_pass 0 (range_rules o) e))
 

@@ -5,7 +5,7 @@ use Rattle.laws.specs.Joined.{filled}
 use Rattle.bits.specs.Layout.{FitIn}
 use Rattle.model.specs.declared.order.Task.{Task}
 use Rattle.model.specs.declared.order.Order.{Order}
-use Rattle.model.specs.declared.answer.Answer.{Answer}
+use Rattle.model.specs.Kinds.{Answer}
 use Rattle.model.specs.declared.answer.Refusal.TheVariants.{OfOrder, OfCall}
 use Rattle.model.specs.declared.answer.OrderCause.TheVariants.{Processors, Tasks}
 use Rattle.model.specs.declared.answer.CallCause.TheVariants.{Columns}

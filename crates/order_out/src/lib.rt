@@ -9,7 +9,7 @@ ghost use Rattle.model.specs.Layouts.{order_header, task_record, order_length};
 ghost use Rattle.order.specs.Order.{header_numbers, header_for, task_numbers, task_bytes, table_bytes, order_bytes};
 ghost use Rattle.order_out.specs.Write.{OrderFits, PutIfRoom, WritesOrder, columns, SameLengths, same_lengths, column_task, column_order, Writes};
 
-use model::{Answer, CallCause, Order, OrderCause, Refusal, Task, wide};
+use model::{CallCause, Order, OrderCause, Refusal, Task, wide};
 
 // version 4 (=1), M 7, n 6, spare 7
 fn put_header(out: &mut [u8], processors: u32, tasks: u32)
@@ -63,31 +63,31 @@ fn put_order(out: &mut [u8], order: Order)
 }
 
 // An order that fits its fields, where there is room for it: 12.
-fn put_if_room(order: Order, out: &mut [u8]) -> Answer
+fn put_if_room(order: Order, out: &mut [u8]) -> Result<u32, Refusal>
     requires { OrderFits order }
     ensures { PutIfRoom order out.old result out.new }
 {
     let size = Order::bytes(order.tasks as usize);
     if out.len() < size {
-        return Answer::Refused(Refusal::OfCall(CallCause::Output));
+        return Err(Refusal::OfCall(CallCause::Output));
     }
     put_order(out, order);
-    Answer::Done(size as u32)
+    Ok(size as u32)
 }
 
 // An order's bytes: 3, 4, then task by task 7 to 10, then 12.
-pub fn write(order: Order, out: &mut [u8]) -> Answer
+pub fn write(order: Order, out: &mut [u8]) -> Result<u32, Refusal>
     ensures { WritesOrder order out.old result out.new }
 {
     if !model::within(1, Order::MOST_PROCESSORS, order.processors) {
-        return Answer::Refused(Refusal::OfOrder(OrderCause::Processors));
+        return Err(Refusal::OfOrder(OrderCause::Processors));
     }
     if !model::within(1, Order::MOST_TASKS as u32, order.tasks) {
-        return Answer::Refused(Refusal::OfOrder(OrderCause::Tasks));
+        return Err(Refusal::OfOrder(OrderCause::Tasks));
     }
     let judged = order.judge();
-    if let Answer::Refused(cause) = judged {
-        return Answer::Refused(cause);
+    if let Err(cause) = judged {
+        return Err(cause);
     }
     put_if_room(order, out)
 }
@@ -178,11 +178,11 @@ pub fn write_order(
     deadlines: &[u32],
     runs: &[u32],
     out: &mut [u8],
-) -> Answer
+) -> Result<u32, Refusal>
     ensures { Writes processors (columns widths.now periods.now deadlines.now runs.now) out.old result out.new }
 {
     if !same_lengths(widths.len(), periods.len(), deadlines.len(), runs.len()) {
-        return Answer::Refused(Refusal::OfCall(CallCause::Columns));
+        return Err(Refusal::OfCall(CallCause::Columns));
     }
     let order = column_order(processors, widths, periods, deadlines, runs);
     write(order, out)

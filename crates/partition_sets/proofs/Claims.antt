@@ -1,4 +1,5 @@
 -- The sets of an accepted build's partitions: whole, below M, as many as the volume, and apart.
+use Rattle.std.specs.Prelude.{Ok}
 use Prim.Native.Nat.{ℕ, ◌≤◌, ◌<◌}
 use mathlib.Core.Path.{◌≡◌, sym, ap, ◌∙◌, subst}
 use mathlib.Core.Bool.{true}
@@ -8,8 +9,7 @@ use native.Mathlib.Decide.{dec_lt}
 use lib.ListN.{length, get_or}
 use Rattle.laws.proofs.Joined.{get_or-listed, length-listed}
 use Rattle.model.specs.declared.build.Build.{Build}
-use Rattle.model.specs.declared.answer.Answer.{Answer}
-use Rattle.model.specs.declared.answer.Answer.TheVariants.{Done}
+use Rattle.model.specs.Kinds.{Answer}
 use Rattle.model.specs.Limits.{place_of}
 use Rattle.model.specs.Answer.{output_after}
 use Rattle.model.specs.Rules.{TestsTell, first_broken, OneRightAnswer, room_rules}
@@ -46,7 +46,7 @@ sets_right order build said p below =
     })
 
 -- a processor in two of them is in an overlap
-overlapped : (order build : List ℕ) → check_answer order build ≡ Done 0 → (p q k : ℕ) → p < q → q < (build_at build).partitions
+overlapped : (order build : List ℕ) → check_answer order build ≡ Ok 0 → (p q k : ℕ) → p < q → q < (build_at build).partitions
     → has (get_or (build_sets (build_at build)) p 0) k ≡ true → has (get_or (build_sets (build_at build)) q 0) k ≡ true → ⊥
 overlapped order build said p q k less below in_p in-q =
     let right : (r : ℕ) → r < (build_at build).partitions → SetRight order build r (get_or (build_sets (build_at build)) r 0) = sets_right order build said in
@@ -74,7 +74,7 @@ answered_by : (order build output : List ℕ) (answer : Answer) (after : List �
 unfolding sets_answer sets_rules
 answered_by order build output answer after w = w.answered
 
-accepts : (order build : List ℕ) → AllPass (check_rules order build) → check_answer order build ≡ Done 0
+accepts : (order build : List ℕ) → AllPass (check_rules order build) → check_answer order build ≡ Ok 0
 unfolding check_answer
 accepts order build passed = pass_done 0 (check_rules order build) passed
 
@@ -89,7 +89,7 @@ sets_given_exactly order build output answer after count w = (
         wrote_front (check_rules order build) _ sets output answer after by w.written count e,
       )),
   (λ is.
-      w.answered ∙ room_next order build (length output) 0 is.0 ∙ room_on _ _ _ (subst (◌≤ length output) is.1 is.2) ∙ ap Done (sym is.1)),
+      w.answered ∙ room_next order build (length output) 0 is.0 ∙ room_on _ _ _ (subst (◌≤ length output) is.1 is.2) ∙ ap Ok (sym is.1)),
 )
 
 length_sets : (b : Build) → length (build_sets b) ≡ b.partitions

@@ -1,4 +1,5 @@
 -- The answer part by part: the check's refusals, then 12; and what an accepted build has.
+use Rattle.std.specs.Prelude.{Ok, Err}
 use Prim.Native.Nat.{ℕ, ◌+◌, ◌-◌, ◌≤◌, ◌<◌}
 use mathlib.Core.Path.{◌≡◌, refl, sym, ap, ◌∙◌}
 use mathlib.Core.List.{List, ◌++◌}
@@ -8,7 +9,6 @@ use Rattle.laws.specs.Joined.{overlaid}
 use Rattle.laws.proofs.Overlaid.{overlaid_more}
 use Rattle.model.specs.declared.order.Order.{Order}
 use Rattle.model.specs.declared.build.Build.{Build}
-use Rattle.model.specs.declared.answer.Answer.TheVariants.{Done, Refused}
 use Rattle.model.specs.declared.answer.Refusal.{Refusal}
 use Rattle.model.specs.declared.answer.Refusal.TheVariants.{OfCall}
 use Rattle.model.specs.declared.answer.CallCause.TheVariants.{Output}
@@ -43,30 +43,30 @@ pub set_next : (f : ℕ → ℕ) (output out : List ℕ) (i value : ℕ) → out
 set_next f output out i value e v below = ap (λ (o : List ℕ). set o i value) e ∙ ap (set (overlaid f i output) i) v ∙ overlaid_more f output i below
 
 module _ (order build : List ℕ) (places : ℕ) where
-  pub check_stops : (cause : Refusal) → check_answer order build ≡ Refused cause → sets_answer order build places ≡ Refused cause
+  pub check_stops : (cause : Refusal) → check_answer order build ≡ Err cause → sets_answer order build places ≡ Err cause
   unfolding check_answer sets_answer sets_rules
   check_stops cause e = stop _ (check_rules order build) (room_rules (build_at build).partitions places) cause (any_count 0 _ (check_rules order build) cause e)
 
-  pub room_next : (count : ℕ) → check_answer order build ≡ Done count → sets_answer order build places ≡ first_broken (build_at build).partitions (room_rules (build_at build).partitions places)
+  pub room_next : (count : ℕ) → check_answer order build ≡ Ok count → sets_answer order build places ≡ first_broken (build_at build).partitions (room_rules (build_at build).partitions places)
   unfolding sets_answer sets_rules
   room_next count e = pass_on _ (check_rules order build) (room_rules (build_at build).partitions places) (check_passes order build e)
 
 module _ (order build output : List ℕ) (checked : Checked) (so : ChecksBoth order build checked) where
-  pub given_not : (cause : Refusal) → checked.answer ≡ Refused cause → GivesSets order build output (Refused cause) output
+  pub given_not : (cause : Refusal) → checked.answer ≡ Err cause → GivesSets order build output (Err cause) output
   given_not cause e =
       record {
         answered = sym (check_stops order build (length output) cause (sym (answer_of order build checked so) ∙ e));
         written = sym (after_refused cause (build_sets (build_at build)) output);
       }
 
-  module _ (count : ℕ) (done : checked.answer ≡ Done count) where
+  module _ (count : ℕ) (done : checked.answer ≡ Ok count) where
     next : sets_answer order build (length output) ≡ first_broken (build_at build).partitions (room_rules (build_at build).partitions (length output))
     next = room_next order build (length output) count (sym (answer_of order build checked so) ∙ done)
 
     same : checked.build ≡ build_at build
     same = handed_build order build checked so done
 
-    pub no_room : length output < checked.build.partitions → GivesSets order build output (Refused (OfCall Output)) output
+    pub no_room : length output < checked.build.partitions → GivesSets order build output (Err (OfCall Output)) output
     no_room less =
         record {
           answered = sym (next ∙ room_stop _ _ _ (omega (arith, less, ap (λ (b : Build). b.partitions) same)));
@@ -74,9 +74,9 @@ module _ (order build output : List ℕ) (checked : Checked) (so : ChecksBoth or
         }
 
     pub given : (after : List ℕ) → checked.build.partitions ≤ length output → after ≡ build_sets checked.build ++ drop checked.build.partitions output
-        → GivesSets order build output (Done checked.build.partitions) after
+        → GivesSets order build output (Ok checked.build.partitions) after
     given after room e =
         record {
-          answered = sym (next ∙ room_on _ _ _ (omega (arith, room, ap (λ (b : Build). b.partitions) same)) ∙ ap (λ (b : Build). Done b.partitions) (sym same));
+          answered = sym (next ∙ room_on _ _ _ (omega (arith, room, ap (λ (b : Build). b.partitions) same)) ∙ ap (λ (b : Build). Ok b.partitions) (sym same));
           written = e ∙ ap (λ (b : Build). build_sets b ++ drop checked.build.partitions output) same ∙ sym (after_done checked.build.partitions (build_sets (build_at build)) output);
         }

@@ -1,7 +1,6 @@
 -- The sets of an accepted build's partitions; proved in proofs/.
-use Rattle.std.specs.Prelude.{ℕ, ◌≤◌, ◌<◌, ◌≡◌, true, List, ◌++◌, ◌↔◌, length, get_or, drop}
-use Rattle.model.specs.declared.answer.Answer.{Answer}
-use Rattle.model.specs.declared.answer.Answer.TheVariants.{Done}
+use Rattle.std.specs.Prelude.{ℕ, ◌≤◌, ◌<◌, ◌≡◌, true, List, ◌++◌, ◌↔◌, length, get_or, drop, Ok}
+use Rattle.model.specs.Kinds.{Answer}
 use Rattle.model.specs.Answer.{OnlyCountedFront}
 use Rattle.model.specs.Limits.{place_of}
 use Rattle.model.specs.Processors.{volume_of, OfPartition}
@@ -15,8 +14,8 @@ use Rattle.partition_sets.specs.Given.{build_sets, sets_rules, sets_answer, Give
 -- the sets are given exactly for a build that the check accepts, where there is a place for each
 abbrev pub SetsGivenExactly : Type 0
 SetsGivenExactly = (order build output : List ℕ) (answer : Answer) (after : List ℕ) (count : ℕ) → GivesSets order build output answer after
-    → (answer ≡ Done count)
-    ↔ ((check_answer order build ≡ Done 0) × (count ≡ (build_at build).partitions) × (count ≤ length output) × (after ≡ build_sets (build_at build) ++ drop count output))
+    → (answer ≡ Ok count)
+    ↔ ((check_answer order build ≡ Ok 0) × (count ≡ (build_at build).partitions) × (count ≤ length output) × (after ≡ build_sets (build_at build) ++ drop count output))
 
 -- of an accepted build: the set of partition p
 pub record SetRight (order build : List ℕ) (p set : ℕ) : Type 0 where
@@ -26,11 +25,11 @@ pub record SetRight (order build : List ℕ) (p set : ℕ) : Type 0 where
   pub sized : size_of_set set ≡ volume_of (place_of (build_at build) p)
 
 abbrev pub SetsRight : Type 0
-SetsRight = (order build : List ℕ) → check_answer order build ≡ Done 0 → (p : ℕ) → p < (build_at build).partitions → SetRight order build p (get_or (build_sets (build_at build)) p 0)
+SetsRight = (order build : List ℕ) → check_answer order build ≡ Ok 0 → (p : ℕ) → p < (build_at build).partitions → SetRight order build p (get_or (build_sets (build_at build)) p 0)
 
 -- no processor is in two of them
 abbrev pub SetsApart : Type 0
-SetsApart = (order build : List ℕ) → check_answer order build ≡ Done 0
+SetsApart = (order build : List ℕ) → check_answer order build ≡ Ok 0
     → (p q k : ℕ) → p < (build_at build).partitions → q < (build_at build).partitions
     → has (get_or (build_sets (build_at build)) p 0) k ≡ true → has (get_or (build_sets (build_at build)) q 0) k ≡ true → p ≡ q
 

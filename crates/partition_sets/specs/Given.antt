@@ -2,7 +2,7 @@
 use Rattle.std.specs.Prelude.{ℕ, ◌+◌, ◌≤◌, ◌<◌, ◌≡◌, List, ◌++◌, length}
 use Rattle.laws.specs.Joined.{listed}
 use Rattle.model.specs.declared.build.Build.{Build}
-use Rattle.model.specs.declared.answer.Answer.{Answer}
+use Rattle.model.specs.Kinds.{Answer}
 use Rattle.model.specs.Answer.{output_after}
 use Rattle.model.specs.Limits.{most_partitions, most_processors, place_of}
 use Rattle.model.specs.Processors.{volume_of}

@@ -4,7 +4,7 @@
 ghost use Rattle.std.specs.Prelude.{◌≡◌, ◌++◌, ◌+◌, ◌≤◌, ◌<◌, length, drop};
 ghost use Rattle.partition_sets.specs.Given.{build_sets, PartitionsFit, GivesSets};
 
-use model::{Answer, Build, CallCause, Refusal};
+use model::{Build, CallCause, Refusal};
 use sets::partition_set;
 
 // The set of each partition into the front of out.
@@ -24,19 +24,19 @@ fn put_sets(build: Build, out: &mut [u64])
 }
 
 // The sets of a build's partitions: the check's refusals, then 12.
-pub fn partition_sets(order: &[u8], build: &[u8], out: &mut [u64]) -> Answer
+pub fn partition_sets(order: &[u8], build: &[u8], out: &mut [u64]) -> Result<u32, Refusal>
     ensures { GivesSets order.now build.now out.old result out.new }
 {
     let checked = inspect::check_both(order, build);
     let answer = checked.answer;
-    if let Answer::Refused(cause) = answer {
-        return Answer::Refused(cause);
+    if let Err(cause) = answer {
+        return Err(cause);
     }
     let accepted = checked.build;
     let partitions = accepted.partitions;
     if out.len() < partitions as usize {
-        return Answer::Refused(Refusal::OfCall(CallCause::Output));
+        return Err(Refusal::OfCall(CallCause::Output));
     }
     put_sets(accepted, out);
-    Answer::Done(partitions)
+    Ok(partitions)
 }

@@ -1,4 +1,5 @@
 -- A waiting task beside the members of a partition: what its trial over their rows says of the order.
+use Rattle.std.specs.Prelude.{Ok}
 use mathlib.Core.Path.{◌≡◌, refl, sym, ap, ◌∙◌, subst}
 use mathlib.Core.Bool.{Bool, true, false, not, ◌&&◌}
 use mathlib.Core.List.{List}
@@ -17,7 +18,6 @@ use Rattle.laws.proofs.Sums.{sum_le, largest_in}
 use Rattle.model.specs.declared.order.Order.{Order}
 use Rattle.model.specs.Limits.{most_tasks, task_of, cost}
 use Rattle.model.specs.Rules.{WithinLimits}
-use Rattle.demand.specs.declared.Verdict.TheVariants.{Passes}
 use Rattle.demand.specs.Priority.{Members, deadline_of, outranks, higher, lower}
 use Rattle.demand.specs.Releases.{cost_of, work_by}
 use Rattle.demand.specs.Test.{blocking, higher_work, verdict, does_pass}
@@ -224,7 +224,7 @@ module _ (o : Order) (limits : WithinLimits o) (homes : List ℕ) (places : leng
           let its : cost_at rows is.by ≡ cost_of o x = (rows_are is.by is.inside).cost_is in
           omega (arith, is.long, counts, most, mine, its)
 
-      stands : (h : ℕ) → h < newcomer → Shielded rows count newcomer h → verdict_at rows count h ≡ Passes (of_rank own' worsts h)
+      stands : (h : ℕ) → h < newcomer → Shielded rows count newcomer h → verdict_at rows count h ≡ Ok (of_rank own' worsts h)
       stands h a is =
           let l : h < count = omega (arith, newcomer_in) in
           let j = number_at own' h in
@@ -309,15 +309,15 @@ module _ (o : Order) (limits : WithinLimits o) (homes : List ℕ) (places : leng
             subst (OpenUntil o (living_in homes' (home_at homes' j)) j) (sym (last_kept j m))
             (open_more o (living_in homes (home_at homes j)) (living_in homes' (home_at homes' j)) (λ x lx e. same_members j m was x lx ∙ e) j (get_or lasts j 0) (known.unclosed j l was))
 
-        passing_now : (j : ℕ) → j < o.tasks → is_unplaced homes' j ≡ false → (b : Bool) → living_in homes' k j ≡ b → verdict o (living_in homes' (home_at homes' j)) j ≡ Passes (get_or worsts' j 0)
+        passing_now : (j : ℕ) → j < o.tasks → is_unplaced homes' j ≡ false → (b : Bool) → living_in homes' k j ≡ b → verdict o (living_in homes' (home_at homes' j)) j ≡ Ok (get_or worsts' j 0)
         passing_now j l p true m =
             let place = place_of o (living_in homes' k) (number_at own') count ranked j l m in
             let r = place.0 in
             ap (λ (h : ℕ). verdict o (living_in homes' h) j) (living_says homes' k j m)
-            ∙ subst (λ (x : ℕ). verdict o (living_in homes' k) x ≡ Passes (get_or worsts' x 0)) place.2 (sym (verdict_there r place.1) ∙ after.stand r place.1)
+            ∙ subst (λ (x : ℕ). verdict o (living_in homes' k) x ≡ Ok (get_or worsts' x 0)) place.2 (sym (verdict_there r place.1) ∙ after.stand r place.1)
         passing_now j l p false m =
             let was = was_placed j m p in
-            verdict_same o (living_in homes' (home_at homes' j)) (living_in homes (home_at homes j)) j (same_members j m was) ∙ known.passing j l was ∙ ap Passes (sym (worst_kept j m))
+            verdict_same o (living_in homes' (home_at homes' j)) (living_in homes (home_at homes j)) j (same_members j m was) ∙ known.passing j l was ∙ ap Ok (sym (worst_kept j m))
 
         pub known_now : Known o homes' lasts' worsts'
         known_now =

@@ -1,4 +1,5 @@
 -- The opened partitions tried in turn: none so far takes the task, and nothing has changed.
+use Rattle.std.specs.Prelude.{Some, None}
 use mathlib.Core.Path.{◌≡◌, refl, sym, ap, ◌∙◌, subst}
 use mathlib.Core.Bool.{true, false}
 use mathlib.Core.List.{List}
@@ -6,7 +7,6 @@ use Prim.Native.Nat.{ℕ, ◌+◌, ◌≤◌, ◌<◌}
 use native.Mathlib.Decide.{ℕ_discrete}
 use native.Mathlib.Omega.{arith}
 use lib.ListN.{set}
-use Rattle.search.specs.declared.Found.TheVariants.{At, Nothing}
 use Rattle.search.proofs.First.{first_found, first_missing}
 use Rattle.demand.proofs.Largest.{at_one}
 use Rattle.asked.specs.Rows.{word_at}
@@ -59,7 +59,7 @@ module _ (table keys : List ℕ) (placed : ℕ) (lasts₀ worsts₀ : List ℕ) 
 
       -- this one takes it
       pub found_here : (opened : ℕ) → partition < opened → r.passes ≡ true → (so : Trying table keys placed lasts₀ worsts₀ task)
-          → Lowest table keys placed lasts₀ worsts₀ task so opened (At partition) lasts' worsts'
+          → Lowest table keys placed lasts₀ worsts₀ task so opened (Some partition) lasts' worsts'
       found_here opened l t so =
           record {
             answer = sym (first_found (accepts so.order so.homes task) opened partition (record { below = l; holds = sym (is so).answer ∙ t; earlier = was.none so }));
@@ -81,7 +81,7 @@ module _ (table keys : List ℕ) (placed : ℕ) (lasts₀ worsts₀ : List ℕ) 
           }
 
   pub found_nowhere : (lasts worsts : List ℕ) (first partition opened : ℕ) → Sought lasts worsts first partition → opened ≤ partition → (so : Trying table keys placed lasts₀ worsts₀ task)
-      → Lowest table keys placed lasts₀ worsts₀ task so opened Nothing lasts worsts
+      → Lowest table keys placed lasts₀ worsts₀ task so opened None lasts worsts
   found_nowhere lasts worsts first partition opened was le so =
       record {
         answer = sym (first_missing (accepts so.order so.homes task) opened (λ k l. was.none so k (omega arith)));

@@ -1,12 +1,9 @@
 -- What is known of the placed tasks while first fit goes on. Inner definitions; those of the document stand in fitting.
-use Rattle.std.specs.Prelude.{ℕ, ◌+◌, ◌≤◌, ◌<◌, ◌≡◌, true, false, not, List, length, get_or, set}
+use Rattle.std.specs.Prelude.{ℕ, ◌+◌, ◌≤◌, ◌<◌, ◌≡◌, true, false, not, List, length, get_or, set, Some, None, Option, Ok}
 use Rattle.model.specs.declared.order.Order.{Order}
 use Rattle.model.specs.Limits.{most_tasks, task_of}
 use Rattle.model.specs.Rules.{WithinLimits}
-use Rattle.search.specs.declared.Found.{Found}
-use Rattle.search.specs.declared.Found.TheVariants.{At, Nothing}
 use Rattle.search.specs.Smallest.{first_of}
-use Rattle.demand.specs.declared.Verdict.TheVariants.{Passes}
 use Rattle.demand.specs.Priority.{Members, deadline_of}
 use Rattle.demand.specs.Releases.{work_by}
 use Rattle.demand.specs.Test.{blocking, higher_work, verdict}
@@ -29,7 +26,7 @@ pub record Known (o : Order) (homes lasts worsts : List ℕ) : Type 0 where
   pub waiting : (j : ℕ) → j < o.tasks → is_unplaced homes j ≡ true → get_or lasts j 0 ≡ 0
   pub near : (j : ℕ) → j < o.tasks → get_or lasts j 0 ≤ 2_000_000
   pub unclosed : (j : ℕ) → j < o.tasks → is_unplaced homes j ≡ false → OpenUntil o (living_in homes (home_at homes j)) j (get_or lasts j 0)
-  pub passing : (j : ℕ) → j < o.tasks → is_unplaced homes j ≡ false → verdict o (living_in homes (home_at homes j)) j ≡ Passes (get_or worsts j 0)
+  pub passing : (j : ℕ) → j < o.tasks → is_unplaced homes j ≡ false → verdict o (living_in homes (home_at homes j)) j ≡ Ok (get_or worsts j 0)
 
 -- the placed tasks stand in line
 abbrev pub InLine : Order → (homes keys : List ℕ) → (placed : ℕ) → Type 0
@@ -65,7 +62,7 @@ pub record TriedIn (table keys : List ℕ) (placed first key : ℕ) (lasts worst
   pub refused : r.passes ≡ false → (lasts' ≡ lasts) × (worsts' ≡ worsts)
 
 -- what comes of it where all opened partitions are tried in turn
-pub record Lowest (table keys : List ℕ) (placed : ℕ) (lasts worsts : List ℕ) (task : ℕ) (so : Trying table keys placed lasts worsts task) (opened : ℕ) (r : Found) (lasts' worsts' : List ℕ) : Type 0 where
+pub record Lowest (table keys : List ℕ) (placed : ℕ) (lasts worsts : List ℕ) (task : ℕ) (so : Trying table keys placed lasts worsts task) (opened : ℕ) (r : Option ℕ) (lasts' worsts' : List ℕ) : Type 0 where
   pub answer : r ≡ first_of (accepts so.order so.homes task) 0 opened
-  pub taken : (k : ℕ) → r ≡ At k → Known so.order (set so.homes task k) lasts' worsts'
-  pub refused : r ≡ Nothing → (lasts' ≡ lasts) × (worsts' ≡ worsts)
+  pub taken : (k : ℕ) → r ≡ Some k → Known so.order (set so.homes task k) lasts' worsts'
+  pub refused : r ≡ None → (lasts' ≡ lasts) × (worsts' ≡ worsts)

@@ -6,7 +6,6 @@ ghost use Rattle.placing.specs.Known.{Trying, TryingIn, TriedIn, Lowest};
 
 use asked::{DEADLINE, ROWS};
 use model::Order;
-use search::Found;
 
 // Whether a partition takes a task, and how many members it has without it.
 #[derive(Clone, Copy)]
@@ -46,7 +45,7 @@ pub fn lowest_accepting(
     opened: u32,
     lasts: &mut [u32; Order::MOST_TASKS],
     worsts: &mut [u32; Order::MOST_TASKS],
-) -> Found
+) -> Option<u64>
     requires { Trying table.now keys.now placed lasts.old worsts.old task × (opened ≤ 32) }
     ensures { (so : Trying table.now keys.now placed lasts.old worsts.old task) → Lowest table.now keys.now placed lasts.old worsts.old task so opened result lasts.new worsts.new }
 {
@@ -56,10 +55,10 @@ pub fn lowest_accepting(
         let key = roster::key_of(partition, table[DEADLINE + task], task);
         let tried = try_partition(table, keys, placed, first, key, lasts, worsts);
         if tried.passes {
-            return Found::At(partition as u64);
+            return Some(partition as u64);
         }
         first += tried.size;
         partition += 1;
     }
-    Found::Nothing
+    None
 }

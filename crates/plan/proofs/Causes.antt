@@ -1,9 +1,9 @@
 -- An order's rules refuse for an order's causes alone.
+use Rattle.std.specs.Prelude.{Err}
 use mathlib.Core.Path.{◌≡◌, refl}
 use mathlib.Core.List.{List}
 use Prim.Native.Nat.{ℕ}
 use lib.ListN.{length}
-use Rattle.model.specs.declared.answer.Answer.TheVariants.{Refused}
 use Rattle.model.specs.declared.answer.Refusal.{Refusal}
 use Rattle.model.specs.declared.answer.Refusal.TheVariants.{OfOrder}
 use Rattle.model.specs.declared.answer.OrderCause.{OrderCause}
@@ -15,7 +15,7 @@ use Rattle.order.specs.Order.{order_at, header_rules, header_of, spare_rules, la
 abbrev OfAnOrder : Refusal → Type 0
 OfAnOrder refusal = (cause : OrderCause) × (refusal ≡ OfOrder cause)
 
-pub order_refuses : (order : List ℕ) (refusal : Refusal) → first_broken 0 (order_rules order) ≡ Refused refusal → (cause : OrderCause) × (refusal ≡ OfOrder cause)
+pub order_refuses : (order : List ℕ) (refusal : Refusal) → first_broken 0 (order_rules order) ≡ Err refusal → (cause : OrderCause) × (refusal ≡ OfOrder cause)
 unfolding order_rules layout_rules header_rules spare_rules range_rules EachRefuses
 order_refuses order refusal e =
     refused_by OfAnOrder 0 (order_rules order) refusal

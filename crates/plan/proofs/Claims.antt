@@ -1,4 +1,5 @@
 -- The claims of specs/Claims.antt, proved.
+use Rattle.std.specs.Prelude.{Ok, Err}
 use mathlib.Core.Path.{◌≡◌, refl, sym, ap, ◌∙◌, subst}
 use mathlib.Core.List.{List}
 use mathlib.Core.Logic.{◌⊎◌, inl, inr}
@@ -9,8 +10,7 @@ use native.Mathlib.Omega.{arith}
 use Rattle.model.specs.declared.order.Order.{Order}
 use Rattle.model.specs.declared.build.Build.{Build}
 use Rattle.model.specs.declared.answer.OrderCause.{OrderCause}
-use Rattle.model.specs.declared.answer.Answer.{Answer}
-use Rattle.model.specs.declared.answer.Answer.TheVariants.{Done, Refused}
+use Rattle.model.specs.Kinds.{Answer}
 use Rattle.model.specs.declared.answer.Refusal.{Refusal}
 use Rattle.model.specs.declared.answer.Refusal.TheVariants.{OfOrder, OfCall}
 use Rattle.model.specs.declared.answer.CallCause.TheVariants.{FirstFit, Output}
@@ -45,7 +45,7 @@ unfolding plan_answer OneRightAnswer
 one_plan_answer order room answer = one_right_answer _ (plan_rules order room) (plan_tells order room) answer
 
 -- an accepted plan: every rule passes, and the count is the build's length
-module _ (order output : List ℕ) (answer : Answer) (after : List ℕ) (count : ℕ) (p : Plans order output answer after) (e : answer ≡ Done count) where
+module _ (order output : List ℕ) (answer : Answer) (after : List ℕ) (count : ℕ) (p : Plans order output answer after) (e : answer ≡ Ok count) where
   abbrev found : Fitted
   found = fitted_of (order_at order)
 
@@ -61,12 +61,12 @@ module _ (order output : List ℕ) (answer : Answer) (after : List ℕ) (count :
   unfolding plan_rules
   fitted_passes = pass_rest (order_rules order) (fitted_rules (order_at order) found (length output)) rules
 
-  pub fit_done : (done : ℕ) × (found.answer ≡ Done done)
+  pub fit_done : (done : ℕ) × (found.answer ≡ Ok done)
   fit_done = go found.answer refl
     where
-      go : (a : Answer) → found.answer ≡ a → (done : ℕ) × (found.answer ≡ Done done)
-      go (Done done) f = (done, f)
-      go (Refused cause) f = never (sym (fit_stop 0 (order_at order) found (length output) f) ∙ pass_done 0 (fitted_rules (order_at order) found (length output)) fitted_passes)
+      go : (a : Answer) → found.answer ≡ a → (done : ℕ) × (found.answer ≡ Ok done)
+      go (Ok done) f = (done, f)
+      go (Err cause) f = never (sym (fit_stop 0 (order_at order) found (length output) f) ∙ pass_done 0 (fitted_rules (order_at order) found (length output)) fitted_passes)
 
   pub counted : count ≡ size_of found.build
   unfolding plan_answer
@@ -86,7 +86,7 @@ plans_only_counted_front order output answer after p =
     )
 
 -- the answer of an order that was read
-module _ (order output : List ℕ) (answer : Answer) (after : List ℕ) (p : Plans order output answer after) (read : (read_order order).answer ≡ Done 0) where
+module _ (order output : List ℕ) (answer : Answer) (after : List ℕ) (p : Plans order output answer after) (read : (read_order order).answer ≡ Ok 0) where
   all : AllPass (order_rules order)
   all = read_rules order read
 
@@ -94,10 +94,10 @@ module _ (order output : List ℕ) (answer : Answer) (after : List ℕ) (p : Pla
   limits = within_limits order all
 
   -- where first fit refuses, so does the plan
-  pub refused_so : {cause : Refusal} → (fitted_of (order_at order)).answer ≡ Refused cause → answer ≡ Refused cause
+  pub refused_so : {cause : Refusal} → (fitted_of (order_at order)).answer ≡ Err cause → answer ≡ Err cause
   refused_so f = p.answered ∙ plan_fitted order (length output) all ∙ fit_stop _ (order_at order) (fitted_of (order_at order)) (length output) f
 
-  pub done_so : {done : ℕ} → (fitted_of (order_at order)).answer ≡ Done done
+  pub done_so : {done : ℕ} → (fitted_of (order_at order)).answer ≡ Ok done
       → answer ≡ first_broken (size_of (fitted_of (order_at order)).build) (room_rules (size_of (fitted_of (order_at order)).build) (length output))
   done_so f = p.answered ∙ plan_fitted order (length output) all ∙ fit_on _ (order_at order) (fitted_of (order_at order)) (length output) f
 
@@ -114,8 +114,8 @@ sound_is_planned order output answer after p read = go (one_of_two o limits')
     limits' = limits order output answer after p read
 
     go : ((s : Placing) × (first_fit (order_at order) ≡ going_on s)) ⊎ ((s : Placing) × ((i : ℕ) × (first_fit (order_at order) ≡ refusing s i)))
-        → ((b : Build) × (fitted_of (order_at order) ≡ record { answer = Done 0; build = b }) × Built (order_at order) b × (size_of b ≤ length output → answer ≡ Done (size_of b)))
-        ⊎ ((s : Placing) × (i : ℕ) × (answer ≡ Refused (OfCall (FirstFit i))) × RefusedIn (order_at order) s i)
+        → ((b : Build) × (fitted_of (order_at order) ≡ record { answer = Ok 0; build = b }) × Built (order_at order) b × (size_of b ≤ length output → answer ≡ Ok (size_of b)))
+        ⊎ ((s : Placing) × (i : ℕ) × (answer ≡ Err (OfCall (FirstFit i))) × RefusedIn (order_at order) s i)
     go (inl (s, f)) =
         let e = fitted_done (order_at order) s f in
         let b = build_of (order_at order) s in
@@ -134,39 +134,39 @@ sound_is_planned order output answer after p read = go (one_of_two o limits')
 call_not_order : {A : Type 0} {cause : OrderCause} {i : ℕ} → OfOrder cause ≡ OfCall (FirstFit i) → A
 call_not_order e = (let z : ◌≡◌ {A = ℕ} 0 1 = cc e in absurd (omega arith))
 
-room_not_fit : (count size room i : ℕ) → first_broken count (room_rules size room) ≡ Refused (OfCall (FirstFit i)) → ⊥
+room_not_fit : (count size room i : ℕ) → first_broken count (room_rules size room) ≡ Err (OfCall (FirstFit i)) → ⊥
 room_not_fit count size room i e = elim (dec_le size room) [
   | yes fits ↦ never (sym e ∙ room_on count size room fits)
-  | no short ↦ (let f : Refused (OfCall Output) ≡ Refused (OfCall (FirstFit i)) = sym (room_stop count size room (omega arith)) ∙ e in
+  | no short ↦ (let f : Err (OfCall Output) ≡ Err (OfCall (FirstFit i)) = sym (room_stop count size room (omega arith)) ∙ e in
       let z : ◌≡◌ {A = ℕ} 0 1 = cc f in omega arith)
 ]
 
-module _ (order output : List ℕ) (answer : Answer) (after : List ℕ) (i : ℕ) (p : Plans order output answer after) (e : answer ≡ Refused (OfCall (FirstFit i))) where
-  read_so : (a : Answer) → (read_order order).answer ≡ a → (read_order order).answer ≡ Done 0
-  read_so (Done count) f = f ∙ ap Done (done_count 0 (order_rules order) (sym (read_answer order) ∙ f))
-  read_so (Refused cause) f =
+module _ (order output : List ℕ) (answer : Answer) (after : List ℕ) (i : ℕ) (p : Plans order output answer after) (e : answer ≡ Err (OfCall (FirstFit i))) where
+  read_so : (a : Answer) → (read_order order).answer ≡ a → (read_order order).answer ≡ Ok 0
+  read_so (Ok count) f = f ∙ ap Ok (done_count 0 (order_rules order) (sym (read_answer order) ∙ f))
+  read_so (Err cause) f =
       let refused = sym (read_answer order) ∙ f in
-      let same : Refused cause ≡ Refused (OfCall (FirstFit i)) = sym (plan_order order (length output) refused) ∙ sym p.answered ∙ e in
+      let same : Err cause ≡ Err (OfCall (FirstFit i)) = sym (plan_order order (length output) refused) ∙ sym p.answered ∙ e in
       let its = order_refuses order cause refused in
       call_not_order {i = i} (sym its.1 ∙ cc same)
 
-  fit_so : (read : (read_order order).answer ≡ Done 0) → (a : Answer) → (fitted_of (order_at order)).answer ≡ a → (s : Placing) × RefusedIn (order_at order) s i
-  fit_so read (Done done) f = absurd (room_not_fit _ _ _ i (sym (done_so order output answer after p read f) ∙ e))
-  fit_so read (Refused cause) f =
-      let r = fitted_is_refused (order_at order) (fitted_of (order_at order)).build cause (limits order output answer after p read) (whole order output answer after p read (Refused cause) f) in
-      let same : Refused cause ≡ Refused (OfCall (FirstFit i)) = sym (refused_so order output answer after p read f) ∙ e in
+  fit_so : (read : (read_order order).answer ≡ Ok 0) → (a : Answer) → (fitted_of (order_at order)).answer ≡ a → (s : Placing) × RefusedIn (order_at order) s i
+  fit_so read (Ok done) f = absurd (room_not_fit _ _ _ i (sym (done_so order output answer after p read f) ∙ e))
+  fit_so read (Err cause) f =
+      let r = fitted_is_refused (order_at order) (fitted_of (order_at order)).build cause (limits order output answer after p read) (whole order output answer after p read (Err cause) f) in
+      let same : Err cause ≡ Err (OfCall (FirstFit i)) = sym (refused_so order output answer after p read f) ∙ e in
       let task : OfCall (FirstFit r.1.1.0) ≡ OfCall (FirstFit i) = sym r.1.1.1 ∙ cc same in
       (r.1.0, subst (RefusedIn (order_at order) r.1.0) (cc task) r.1.1.2)
 
 pub refuses_where_fit_runs_out : RefusesWhereFitRunsOut
 refuses_where_fit_runs_out order output answer after i p = (there, back)
   where
-    there : answer ≡ Refused (OfCall (FirstFit i)) → ((read_order order).answer ≡ Done 0) × ((s : Placing) × RefusedIn (order_at order) s i)
+    there : answer ≡ Err (OfCall (FirstFit i)) → ((read_order order).answer ≡ Ok 0) × ((s : Placing) × RefusedIn (order_at order) s i)
     there e =
         let read = read_so order output answer after i p e (read_order order).answer refl in
         (read, fit_so order output answer after i p e read (fitted_of (order_at order)).answer refl)
 
-    back : ((read_order order).answer ≡ Done 0) × ((s : Placing) × RefusedIn (order_at order) s i) → answer ≡ Refused (OfCall (FirstFit i))
+    back : ((read_order order).answer ≡ Ok 0) × ((s : Placing) × RefusedIn (order_at order) s i) → answer ≡ Err (OfCall (FirstFit i))
     back (read, (s, is)) =
         refused_so order output answer after p read
         (ap (λ (x : Fitted). x.answer) (refused_is_fitted (order_at order) s i (limits order output answer after p read) is))

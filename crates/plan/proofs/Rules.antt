@@ -1,12 +1,12 @@
 -- Laws of the planner's rules: the parts in turn.
+use Rattle.std.specs.Prelude.{Ok, Err}
 use mathlib.Core.Path.{◌≡◌, refl, sym, ap, ◌∙◌}
 use mathlib.Core.Bool.{false}
 use mathlib.Core.List.{List}
 use Prim.Native.Nat.{ℕ}
 use Rattle.laws.proofs.Every.{clash}
 use Rattle.model.specs.declared.order.Order.{Order}
-use Rattle.model.specs.declared.answer.Answer.{Answer}
-use Rattle.model.specs.declared.answer.Answer.TheVariants.{Done, Refused}
+use Rattle.model.specs.Kinds.{Answer}
 use Rattle.model.specs.declared.answer.Refusal.{Refusal}
 use Rattle.model.specs.Rules.{first_broken, TestsTell, room_rules}
 use Rattle.model.proofs.Rules.{AllPass, never, pass_on, stop, any_count, tell_append, tell_one, room_tells}
@@ -18,11 +18,11 @@ use Rattle.fit.proofs.Built.{fitted_done}
 use Rattle.plan.specs.Plan.{PlacesAll, fit_rules, size_of, fitted_rules, plan_rules, plan_answer}
 
 -- first fit's own answer, among the rules
-pub fit_stop : (count : ℕ) (o : Order) (found : Fitted) (room : ℕ) {refusal : Refusal} → found.answer ≡ Refused refusal → first_broken count (fitted_rules o found room) ≡ Refused refusal
+pub fit_stop : (count : ℕ) (o : Order) (found : Fitted) (room : ℕ) {refusal : Refusal} → found.answer ≡ Err refusal → first_broken count (fitted_rules o found room) ≡ Err refusal
 unfolding fitted_rules first_broken
 fit_stop count o found room e = rw e
 
-pub fit_on : (count : ℕ) (o : Order) (found : Fitted) (room : ℕ) {done : ℕ} → found.answer ≡ Done done → first_broken count (fitted_rules o found room) ≡ first_broken count (room_rules (size_of found.build) room)
+pub fit_on : (count : ℕ) (o : Order) (found : Fitted) (room : ℕ) {done : ℕ} → found.answer ≡ Ok done → first_broken count (fitted_rules o found room) ≡ first_broken count (room_rules (size_of found.build) room)
 unfolding fitted_rules
 fit_on count o found room e = rw e
 
@@ -33,7 +33,7 @@ module _ (order : List ℕ) (room : ℕ) where
   abbrev size : ℕ
   size = size_of found.build
 
-  pub plan_order : {refusal : Refusal} → first_broken 0 (order_rules order) ≡ Refused refusal → plan_answer order room ≡ Refused refusal
+  pub plan_order : {refusal : Refusal} → first_broken 0 (order_rules order) ≡ Err refusal → plan_answer order room ≡ Err refusal
   unfolding plan_answer plan_rules
   plan_order {refusal} e = stop size (order_rules order) (fitted_rules (order_at order) found room) refusal (any_count 0 size (order_rules order) refusal e)
 
@@ -44,8 +44,8 @@ module _ (order : List ℕ) (room : ℕ) where
 -- 11 tells whether first fit places every task
 fit_tells : (o : Order) (answer : Answer) → (fitted_of o).answer ≡ answer → TestsTell (fit_rules o answer)
 unfolding TestsTell
-fit_tells o (Done count) e = tt
-fit_tells o (Refused cause) e = tell_one (record { says = PlacesAll o; test = false }) cause ((λ t. clash t), (λ all. never (sym e ∙ ap (λ (x : Fitted). x.answer) (fitted_done o all.0 all.1))))
+fit_tells o (Ok count) e = tt
+fit_tells o (Err cause) e = tell_one (record { says = PlacesAll o; test = false }) cause ((λ t. clash t), (λ all. never (sym e ∙ ap (λ (x : Fitted). x.answer) (fitted_done o all.0 all.1))))
 
 pub plan_tells : (order : List ℕ) (room : ℕ) → TestsTell (plan_rules order room)
 unfolding plan_rules fitted_rules

@@ -1,8 +1,7 @@
 -- What planning promises beyond its definition: claims, proved in proofs/Claims.antt.
-use Rattle.std.specs.Prelude.{ℕ, ◌≤◌, ◌≡◌, List, ◌↔◌, ◌⊎◌, length}
+use Rattle.std.specs.Prelude.{ℕ, ◌≤◌, ◌≡◌, List, ◌↔◌, ◌⊎◌, length, Ok, Err}
 use Rattle.model.specs.declared.build.Build.{Build}
-use Rattle.model.specs.declared.answer.Answer.{Answer}
-use Rattle.model.specs.declared.answer.Answer.TheVariants.{Done, Refused}
+use Rattle.model.specs.Kinds.{Answer}
 use Rattle.model.specs.declared.answer.Refusal.TheVariants.{OfCall}
 use Rattle.model.specs.declared.answer.CallCause.TheVariants.{FirstFit}
 use Rattle.model.specs.Answer.{OnlyCountedFront}
@@ -26,13 +25,13 @@ PlansOnlyCountedFront = (order output : List ℕ) (answer : Answer) (after : Lis
 -- 11 for task i: the order is sound, and first fit's run comes to i with no open partition that takes it and too few processors left; whatever room there is
 abbrev pub RefusesWhereFitRunsOut : Type 0
 RefusesWhereFitRunsOut = (order output : List ℕ) (answer : Answer) (after : List ℕ) (i : ℕ) → Plans order output answer after
-    → (answer ≡ Refused (OfCall (FirstFit i))) ↔ (((read_order order).answer ≡ Done 0) × ((s : Placing) × RefusedIn (order_at order) s i))
+    → (answer ≡ Err (OfCall (FirstFit i))) ↔ (((read_order order).answer ≡ Ok 0) × ((s : Placing) × RefusedIn (order_at order) s i))
 
 -- "a sound order with room for its build is refused only where that method runs out of accelerators"
 abbrev pub SoundIsPlanned : Type 0
-SoundIsPlanned = (order output : List ℕ) (answer : Answer) (after : List ℕ) → Plans order output answer after → (read_order order).answer ≡ Done 0
-    → ((b : Build) × (fitted_of (order_at order) ≡ record { answer = Done 0; build = b }) × Built (order_at order) b × (size_of b ≤ length output → answer ≡ Done (size_of b)))
-    ⊎ ((s : Placing) × (i : ℕ) × (answer ≡ Refused (OfCall (FirstFit i))) × RefusedIn (order_at order) s i)
+SoundIsPlanned = (order output : List ℕ) (answer : Answer) (after : List ℕ) → Plans order output answer after → (read_order order).answer ≡ Ok 0
+    → ((b : Build) × (fitted_of (order_at order) ≡ record { answer = Ok 0; build = b }) × Built (order_at order) b × (size_of b ≤ length output → answer ≡ Ok (size_of b)))
+    ⊎ ((s : Placing) × (i : ℕ) × (answer ≡ Err (OfCall (FirstFit i))) × RefusedIn (order_at order) s i)
 
 -- one possible answer and content for every input
 abbrev pub PlanningUnique : Type 0

@@ -1,9 +1,8 @@
 -- "The planner reads an order, makes a build": the order's 1 to 10, then 11, then 12.
-use Rattle.std.specs.Prelude.{ℕ, ◌≡◌, false, List, [], ◌∷◌, ◌++◌, length}
+use Rattle.std.specs.Prelude.{ℕ, ◌≡◌, false, List, [], ◌∷◌, ◌++◌, length, Ok, Err}
 use Rattle.model.specs.declared.order.Order.{Order}
 use Rattle.model.specs.declared.build.Build.{Build}
-use Rattle.model.specs.declared.answer.Answer.{Answer}
-use Rattle.model.specs.declared.answer.Answer.TheVariants.{Done, Refused}
+use Rattle.model.specs.Kinds.{Answer}
 use Rattle.model.specs.Layouts.{build_length}
 use Rattle.model.specs.Answer.{output_after}
 use Rattle.model.specs.Rules.{Rule, rule, first_broken, room_rules}
@@ -20,8 +19,8 @@ PlacesAll o = (s : Placing) × (first_fit o ≡ going_on s)
 
 -- 11: "first fit runs out", with the task that it names
 abbrev pub fit_rules : Order → Answer → List Rule
-fit_rules o (Done count) = []
-fit_rules o (Refused cause) = rule (record { says = PlacesAll o; test = false }) cause ∷ []
+fit_rules o (Ok count) = []
+fit_rules o (Err cause) = rule (record { says = PlacesAll o; test = false }) cause ∷ []
 
 -- how many bytes a build has
 abbrev pub size_of : Build → ℕ

@@ -4,35 +4,35 @@
 ghost use Rattle.build.specs.Build.{FieldsFit};
 ghost use Rattle.plan.specs.Plan.{PutsBuild, Plans};
 
-use model::{Answer, Build, CallCause, Refusal};
+use model::{Build, CallCause, Refusal};
 
 // A build, where there is room for it.
-fn put_build(build: Build, out: &mut [u8]) -> Answer
+fn put_build(build: Build, out: &mut [u8]) -> Result<u32, Refusal>
     requires { FieldsFit build }
     ensures { PutsBuild build out.old result out.new }
 {
     let size = Build::bytes(build.partitions as usize, build.tasks as usize);
     if out.len() < size {
-        return Answer::Refused(Refusal::OfCall(CallCause::Output));
+        return Err(Refusal::OfCall(CallCause::Output));
     }
     build_out::write_build(build, out);
-    Answer::Done(size as u32)
+    Ok(size as u32)
 }
 
 // An order's build by first fit: the order's 1 to 10, then 11, then 12.
-pub fn plan(order: &[u8], out: &mut [u8]) -> Answer
+pub fn plan(order: &[u8], out: &mut [u8]) -> Result<u32, Refusal>
     ensures { Plans order.now out.old result out.new }
 {
     let reading = order::read_order(order);
     let read = reading.answer;
-    if let Answer::Refused(cause) = read {
-        return Answer::Refused(cause);
+    if let Err(cause) = read {
+        return Err(cause);
     }
     let its = reading.order;
     let fitted = fit::first_fit(its);
     let placed = fitted.answer;
-    if let Answer::Refused(cause) = placed {
-        return Answer::Refused(cause);
+    if let Err(cause) = placed {
+        return Err(cause);
     }
     let build = fitted.build;
     put_build(build, out)

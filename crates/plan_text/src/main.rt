@@ -1,7 +1,7 @@
 // Plans an order typed as text: M is the one argument, the text is on standard input. It prints what the printer does.
 #![tactic(auto)]
 
-use model::{Answer, Order};
+use model::Order;
 use std::env::{Env, FillError};
 use std::io;
 use std::io::Read;
@@ -24,8 +24,8 @@ fn plan_typed(rt: &(impl Print + Eprint), processors: u32, text: &[u8]) -> io::R
     let mut order = [0u8; Order::MOST_BYTES];
     let answer = text::read_text(processors, text, &mut order);
     match answer {
-        Answer::Done(size) => show::show_plan(rt, &order[..size as usize]),
-        Answer::Refused(cause) => show::show_refusal(rt, cause),
+        Ok(size) => show::show_plan(rt, &order[..size as usize]),
+        Err(cause) => show::show_refusal(rt, cause),
     }
 }
 

@@ -1,4 +1,5 @@
 -- P5 as a late frame, computed.
+use Rattle.std.specs.Prelude.{Ok}
 use Prim.Native.Nat.{ℕ, ◌≤◌}
 use mathlib.Core.Path.{◌≡◌, refl, sym, ap, ◌∙◌, subst₂}
 use native.Mathlib.Omega.{arith}
@@ -13,7 +14,6 @@ use Rattle.bits.specs.Layout.{packed, record_bytes, numbers_at}
 use Rattle.model.specs.declared.order.Order.{Order}
 use Rattle.model.specs.declared.build.Build.{Build}
 use Rattle.model.specs.declared.build.Release.{Release}
-use Rattle.model.specs.declared.answer.Answer.TheVariants.{Done}
 use Rattle.model.specs.Layouts.{script_length}
 use Rattle.model.specs.Limits.{cost}
 use Rattle.model.specs.Processors.{volume_of}
@@ -75,7 +75,7 @@ shown_here =
     ∙ ap (λ (b : Build). script_showing (alone (five 13)) b 2) build_read
     ∙ shown
 
-gives : (output : List ℕ) → 42 ≤ length output → ShowsLate five_order five_build output (Done 42) (script_bytes five_releases ++ drop 42 output)
+gives : (output : List ℕ) → 42 ≤ length output → ShowsLate five_order five_build output (Ok 42) (script_bytes five_releases ++ drop 42 output)
 gives output room =
     record {
       answered = sym (

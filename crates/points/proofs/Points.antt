@@ -1,4 +1,5 @@
 -- The table, computed; that a window is missing is an argument.
+use Rattle.std.specs.Prelude.{None}
 use mathlib.Core.Path.{◌≡◌, refl}
 use Prim.Native.Nat.{ℕ, ◌≤◌, ◌<◌}
 use native.Mathlib.Omega.{arith}
@@ -6,7 +7,6 @@ use Rattle.laws.specs.Sums.{sum, largest}
 use Rattle.laws.specs.Every.{every}
 use Rattle.laws.specs.Joined.{joined}
 use Rattle.search.specs.Smallest.{first_of, smallest}
-use Rattle.search.specs.declared.Found.TheVariants.{Nothing}
 use Rattle.bits.specs.Field.{bit_at, field}
 use Rattle.bits.specs.Layout.{packed, record_bytes, numbers_at}
 use Rattle.model.specs.declared.answer.Refusal.TheVariants.{OfOrder, OfCall}
@@ -34,7 +34,7 @@ eight_asks : (t : ℕ) → 1 ≤ t → t < window_demand (alone (seven 5)) toget
 unfolding cost window_demand blocking largest lower higher outranks sum work_in releases_in ceil_div
 eight_asks t h = omega arith
 
-eight_window : window (alone (seven 5)) together 1 ≡ Nothing
+eight_window : window (alone (seven 5)) together 1 ≡ None
 unfolding window
 eight_window = met_never (window_demand (alone (seven 5)) together 1) 1 (λ t a b. eight_asks t a)
 

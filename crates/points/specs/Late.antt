@@ -1,8 +1,7 @@
 -- P5 as a late frame: its members as a build in one partition, and the script that shows the third one late; proved in proofs/Late.antt.
-use Rattle.std.specs.Prelude.{ℕ, ◌+◌, ◌≤◌, ◌≡◌, List, [], ◌∷◌, ◌++◌, length, drop}
+use Rattle.std.specs.Prelude.{ℕ, ◌+◌, ◌≤◌, ◌≡◌, List, [], ◌∷◌, ◌++◌, length, drop, Ok}
 use Rattle.model.specs.declared.build.Build.{Build}
 use Rattle.model.specs.declared.build.Release.{Release}
-use Rattle.model.specs.declared.answer.Answer.TheVariants.{Done}
 use Rattle.order.specs.Order.{order_bytes}
 use Rattle.build.specs.Build.{build_bytes}
 use Rattle.demand.specs.Priority.{deadline_of}
@@ -30,7 +29,7 @@ five_releases = release 0 0 4 ∷ release 0 1 4 ∷ release 0 2 4 ∷ release 10
 pub record P5Late : Type 0 where
   pub refused : RefusedLate five_order five_build 2
   pub shown : script_showing (alone (five 13)) five_built 2 ≡ five_releases
-  pub gives : (output : List ℕ) → 42 ≤ length output → ShowsLate five_order five_build output (Done 42) (script_bytes five_releases ++ drop 42 output)
+  pub gives : (output : List ℕ) → 42 ≤ length output → ShowsLate five_order five_build output (Ok 42) (script_bytes five_releases ++ drop 42 output)
   pub legal : LegalScript (alone (five 13)) five_releases
   -- the third's jobs finish at 12 and at 28: the second, due at 14 + 13, is late by one tick
   pub finish : finish_ticks (alone (five 13)) five_built five_releases ≡ 4 ∷ 8 ∷ 12 ∷ 16 ∷ 20 ∷ 28 ∷ 24 ∷ []

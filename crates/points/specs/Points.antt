@@ -1,15 +1,13 @@
 -- "Points on the line": the cases marked P, one table; proved in proofs/Points.antt.
-use Rattle.std.specs.Prelude.{ℕ, ◌≤◌, ◌≡◌, List, [], ◌∷◌, ◌++◌, true, length, drop}
+use Rattle.std.specs.Prelude.{ℕ, ◌≤◌, ◌≡◌, List, [], ◌∷◌, ◌++◌, true, length, drop, Ok, Some, None, Err}
 use Rattle.model.specs.declared.order.Task.{Task}
 use Rattle.model.specs.declared.order.Order.{Order}
-use Rattle.model.specs.declared.answer.Answer.{Answer}
-use Rattle.model.specs.declared.answer.Answer.TheVariants.{Done}
+use Rattle.model.specs.Kinds.{Answer}
 use Rattle.model.specs.Limits.{task_of}
 use Rattle.model.specs.Answer.{no_place, answer_number, answer_place, answer_count}
 use Rattle.order.specs.Order.{order_bytes, read_order}
-use Rattle.search.specs.declared.Found.TheVariants.{At, Nothing}
-use Rattle.demand.specs.declared.Verdict.{Verdict}
-use Rattle.demand.specs.declared.Verdict.TheVariants.{Passes, NoWindow, TooLate}
+use Rattle.demand.specs.Verdict.{Verdict}
+use Rattle.demand.specs.declared.Failing.TheVariants.{NoWindow, TooLate}
 use Rattle.demand.specs.Priority.{Members}
 use Rattle.demand.specs.Releases.{jobs}
 use Rattle.demand.specs.Test.{window, start, response, verdict}
@@ -41,7 +39,7 @@ pub record RunGives (order build script output : List ℕ) (number place count :
 
 -- an order's bytes are accepted: they read as that order, and are planned into any output with room for the so many bytes of this build
 pub record OrderAccepted (order : List ℕ) (o : Order) (count : ℕ) (build : List ℕ) : Type 0 where
-  pub reads : read_order order ≡ record { answer = Done 0; order = o }
+  pub reads : read_order order ≡ record { answer = Ok 0; order = o }
   pub planned : (output : List ℕ) → count ≤ length output → PlanGives order output 0 no_place count (build ++ drop count output)
 
 -- an order's bytes are refused by their reader and by the planner, which changes nothing
@@ -77,7 +75,7 @@ VerdictIs members i v = verdict (alone members) together i ≡ v
 
 -- "has response ..": it passes, and that is its worst response
 abbrev pub HasResponse : List Task → (i worst : ℕ) → Type 0
-HasResponse members i worst = VerdictIs members i (Passes worst)
+HasResponse members i worst = VerdictIs members i (Ok worst)
 
 -- "P3: alone, (10, 10, 10) has response 10."
 abbrev pub P3 : Type 0
@@ -91,18 +89,18 @@ pub record P4 : Type 0 where
   pub first : HasResponse four 0 3
   pub second : HasResponse four 1 4
   pub third : HasResponse four 2 7
-  pub last_start : start (alone four) together 2 0 ≡ At 6
+  pub last_start : start (alone four) together 2 0 ≡ Some 6
 
 abbrev pub five : (D : ℕ) → List Task
 five D = member 10 10 4 ∷ member 14 13 4 ∷ member 14 D 4 ∷ []
 
 -- "P5: (10, 10, 4), (14, 13, 4), (14, 13, 4) in one partition: the third's window is 28, its responses 12 and 14: late."
 pub record P5 : Type 0 where
-  pub third_window : window (alone (five 13)) together 2 ≡ At 28
+  pub third_window : window (alone (five 13)) together 2 ≡ Some 28
   pub third_jobs : jobs (task_of (alone (five 13)) 2) 28 ≡ 2
-  pub third_first : response (alone (five 13)) together 2 0 ≡ At 12
-  pub third_second : response (alone (five 13)) together 2 1 ≡ At 14
-  pub third : VerdictIs (five 13) 2 TooLate
+  pub third_first : response (alone (five 13)) together 2 0 ≡ Some 12
+  pub third_second : response (alone (five 13)) together 2 1 ≡ Some 14
+  pub third : VerdictIs (five 13) 2 (Err TooLate)
 
 -- "P6: with D = 14 for the third, it passes with 14."
 abbrev pub P6 : Type 0
@@ -119,8 +117,8 @@ pub record P7 : Type 0 where
 -- "P8: with C = 5 for the second, the first has 10 and the second no window."
 pub record P8 : Type 0 where
   pub first : HasResponse (seven 5) 0 10
-  pub second_window : window (alone (seven 5)) together 1 ≡ Nothing
-  pub second : VerdictIs (seven 5) 1 NoWindow
+  pub second_window : window (alone (seven 5)) together 1 ≡ None
+  pub second : VerdictIs (seven 5) 1 (Err NoWindow)
 
 -- "P9: in the sample build, releases (tick, task, length) (0,1,4), (1,0,4), (1,2,3) finish at 4, 8, 4."
 pub record P9 : Type 0 where

@@ -1,4 +1,5 @@
 -- Rows of ranked members give what the test asks of the order itself.
+use Rattle.std.specs.Prelude.{Option}
 use mathlib.Core.Path.{◌≡◌, refl, sym, ap, ◌∙◌, fun_ext}
 use mathlib.Core.List.{List}
 use Prim.Native.Nat.{ℕ, ◌+◌, ◌-◌, ◌*◌, ◌≤◌, ◌<◌}
@@ -8,7 +9,6 @@ use Rattle.model.specs.declared.order.Task.{Task}
 use Rattle.model.specs.declared.order.Order.{Order}
 use Rattle.model.specs.Limits.{most_tasks, task_of, cost}
 use Rattle.model.specs.Rules.{WithinLimits, Sized}
-use Rattle.search.specs.declared.Found.{Found}
 use Rattle.demand.specs.Priority.{Members}
 use Rattle.demand.specs.Releases.{ceil_div, releases_by, work_by, jobs}
 use Rattle.demand.specs.Test.{first_met, response_from, largest_found, verdict_by, blocking, higher_work, verdict}
@@ -62,7 +62,7 @@ module _ (rows : List ℕ) (r : ℕ) (task : Task) (is : RowOf rows r task) wher
   unfolding verdict_over
   row_verdict work B =
       ap (λ (asked : ℕ → ℕ). verdict_by (first_met asked 1) (λ L. largest_found (response_over work B (row_task rows r)) (jobs (row_task rows r) L)) (row_task rows r).deadline) (row_window work B)
-      ∙ ap (λ (f : ℕ → Found). verdict_by (first_met (window_over work B task) 1) (λ L. largest_found f (jobs (row_task rows r) L)) (row_task rows r).deadline) (row_response work B)
+      ∙ ap (λ (f : ℕ → Option ℕ). verdict_by (first_met (window_over work B task) 1) (λ L. largest_found f (jobs (row_task rows r) L)) (row_task rows r).deadline) (row_response work B)
       ∙ ap (λ (g : ℕ → ℕ). verdict_by (first_met (window_over work B task) 1) (λ L. largest_found (response_over work B task) (g L)) (row_task rows r).deadline) (fun_ext row_jobs)
       ∙ ap (verdict_by (first_met (window_over work B task) 1) (λ L. largest_found (response_over work B task) (jobs task L))) is.deadline
 

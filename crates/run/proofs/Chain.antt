@@ -1,12 +1,12 @@
 -- The run's parts in turn: the check stops it, or the script's rules go on.
+use Rattle.std.specs.Prelude.{Ok, Err}
 use Prim.Native.Nat.{ℕ}
 use mathlib.Core.Path.{◌≡◌, sym, ap, ◌∙◌, subst}
 use mathlib.Core.List.{List}
 use lib.ListN.{length}
 use Rattle.model.specs.declared.order.Order.{Order}
 use Rattle.model.specs.declared.build.Build.{Build}
-use Rattle.model.specs.declared.answer.Answer.{Answer}
-use Rattle.model.specs.declared.answer.Answer.TheVariants.{Done, Refused}
+use Rattle.model.specs.Kinds.{Answer}
 use Rattle.model.specs.declared.answer.Refusal.{Refusal}
 use Rattle.model.specs.Answer.{output_after}
 use Rattle.model.specs.Rules.{first_broken}
@@ -26,31 +26,31 @@ use Rattle.finish.specs.Finish.{finish_ticks}
 use Rattle.run.specs.Run.{run_rules, run_answer, run_ticks, run_output, RanScript, Ran}
 
 -- a script that is not refused is accepted
-pub script_accepted : (o : Order) (script : List ℕ) (places : ℕ) {count : ℕ} → first_broken (records_in script) (script_rules o script places) ≡ Done count → ScriptAccepted o script places
+pub script_accepted : (o : Order) (script : List ℕ) (places : ℕ) {count : ℕ} → first_broken (records_in script) (script_rules o script places) ≡ Ok count → ScriptAccepted o script places
 script_accepted o script places e =
     rules_accepted o script places (pass_kept (script_rules o script places) (script_tells o script places) (done_pass (records_in script) (script_rules o script places) e))
 
 module _ (order build : List ℕ) where
   module _ (script : List ℕ) (places : ℕ) where
-    pub check_stops : {cause : Refusal} → check_answer order build ≡ Refused cause → run_answer order build script places ≡ Refused cause
+    pub check_stops : {cause : Refusal} → check_answer order build ≡ Err cause → run_answer order build script places ≡ Err cause
     unfolding check_answer run_answer run_rules
     check_stops {cause} e =
         stop (records_in script) (check_rules order build) (script_rules (order_at order) script places) cause (any_count 0 (records_in script) (check_rules order build) cause e)
 
-    pub script_next : {count : ℕ} → check_answer order build ≡ Done count → run_answer order build script places ≡ first_broken (records_in script) (script_rules (order_at order) script places)
+    pub script_next : {count : ℕ} → check_answer order build ≡ Ok count → run_answer order build script places ≡ first_broken (records_in script) (script_rules (order_at order) script places)
     unfolding run_answer run_rules
     script_next e = pass_on (records_in script) (check_rules order build) (script_rules (order_at order) script places) (check_passes order build e)
 
 module _ (order build script output : List ℕ) where
   -- a run that the check refuses
-  pub ran_refused : {cause : Refusal} → check_answer order build ≡ Refused cause → Ran order build script output (Refused cause) output
+  pub ran_refused : {cause : Refusal} → check_answer order build ≡ Err cause → Ran order build script output (Err cause) output
   unfolding run_output
   ran_refused {cause} e =
       let stops = check_stops order build script (length output) e in
       record { answers = sym stops; leaves = rw stops (sym (after_refused cause (run_ticks order build script) output)) }
 
   -- a run that it lets pass
-  pub ran_on : {count : ℕ} {answer : Answer} {after : List ℕ} → check_answer order build ≡ Done count → RanScript (order_at order) (build_at build) script output answer after
+  pub ran_on : {count : ℕ} {answer : Answer} {after : List ℕ} → check_answer order build ≡ Ok count → RanScript (order_at order) (build_at build) script output answer after
       → Ran order build script output answer after
   unfolding run_output run_ticks
   ran_on done ran =
@@ -62,10 +62,10 @@ module _ (order build script output : List ℕ) where
 
 -- the same, from the check that hands on what it read
 module _ (order build script output : List ℕ) (checked : Checked) (so : ChecksBoth order build checked) where
-  pub ran_not : {cause : Refusal} → checked.answer ≡ Refused cause → Ran order build script output (Refused cause) output
+  pub ran_not : {cause : Refusal} → checked.answer ≡ Err cause → Ran order build script output (Err cause) output
   ran_not e = ran_refused order build script output (sym (answer_of order build checked so) ∙ e)
 
-  pub ran_handed : {count : ℕ} {answer : Answer} {after : List ℕ} → checked.answer ≡ Done count → RanScript checked.order checked.build script output answer after
+  pub ran_handed : {count : ℕ} {answer : Answer} {after : List ℕ} → checked.answer ≡ Ok count → RanScript checked.order checked.build script output answer after
       → Ran order build script output answer after
   ran_handed {answer} {after} done ran =
       ran_on order build script output (sym (answer_of order build checked so) ∙ done)

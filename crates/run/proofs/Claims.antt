@@ -1,12 +1,12 @@
 -- The run does as specs/Claims.antt says.
+use Rattle.std.specs.Prelude.{Ok}
 use Prim.Native.Nat.{ℕ, ◌<◌}
 use mathlib.Core.Path.{◌≡◌, refl, sym, ap, ◌∙◌, subst}
 use mathlib.Core.List.{List, [], ◌++◌}
 use native.Mathlib.Omega.{arith}
 use lib.ListN.{length, get_or, drop, get_or-append}
 use Rattle.laws.proofs.Joined.{length-listed, get_or-listed}
-use Rattle.model.specs.declared.answer.Answer.{Answer}
-use Rattle.model.specs.declared.answer.Answer.TheVariants.{Done}
+use Rattle.model.specs.Kinds.{Answer}
 use Rattle.model.specs.Answer.{output_after, OnlyCountedFront}
 use Rattle.model.specs.Rules.{Rule, OneRightAnswer}
 use Rattle.model.proofs.Output.{after_done, only_counted_front}
@@ -34,17 +34,17 @@ module _ (order build script : List ℕ) (places : ℕ) where
   abbrev mine : List Rule
   mine = script_rules (order_at order) script places
 
-  run_passes : {count : ℕ} → run_answer order build script places ≡ Done count → AllPass (run_rules order build script places)
+  run_passes : {count : ℕ} → run_answer order build script places ≡ Ok count → AllPass (run_rules order build script places)
   unfolding run_answer
   run_passes e = done_pass (records_in script) (run_rules order build script places) e
 
   -- the count is the number of records
-  pub counted : {count : ℕ} → run_answer order build script places ≡ Done count → count ≡ records_in script
+  pub counted : {count : ℕ} → run_answer order build script places ≡ Ok count → count ≡ records_in script
   unfolding run_answer
   counted e = done_count (records_in script) (run_rules order build script places) e
 
   -- a run that is done: the check says yes, and the script is accepted
-  pub done_parts : {count : ℕ} → run_answer order build script places ≡ Done count → (check_answer order build ≡ Done 0) × ScriptAccepted (order_at order) script places
+  pub done_parts : {count : ℕ} → run_answer order build script places ≡ Ok count → (check_answer order build ≡ Ok 0) × ScriptAccepted (order_at order) script places
   unfolding run_rules check_answer
   done_parts e =
       let all = run_passes e in (
@@ -52,7 +52,7 @@ module _ (order build script : List ℕ) (places : ℕ) where
         rules_accepted (order_at order) script places (pass_kept mine (script_tells (order_at order) script places) (pass_rest (check_rules order build) mine all)),
       )
 
-  parts_done : (check_answer order build ≡ Done 0) × ScriptAccepted (order_at order) script places → run_answer order build script places ≡ Done (records_in script)
+  parts_done : (check_answer order build ≡ Ok 0) × ScriptAccepted (order_at order) script places → run_answer order build script places ≡ Ok (records_in script)
   unfolding run_answer run_rules
   parts_done (yes-said, accepted) =
       pass_done (records_in script) (check_rules order build ++ mine)
@@ -86,8 +86,8 @@ runs_only_front order build script output answer after ran =
     let same = counted order build script (length output) done in
     (ticks_length order build script ∙ sym same, rw same (done_parts order build script (length output) done).1.room))))
 
-module _ (order build script output : List ℕ) (count : ℕ) (after : List ℕ) (ran : Ran order build script output (Done count) after) where
-  done : run_answer order build script (length output) ≡ Done count
+module _ (order build script output : List ℕ) (count : ℕ) (after : List ℕ) (ran : Ran order build script output (Ok count) after) where
+  done : run_answer order build script (length output) ≡ Ok count
   done = sym ran.answers
 
   -- what stands at a record's place

@@ -1,4 +1,5 @@
 -- A run that is lent the counted front of the output alone is a run of the whole.
+use Rattle.std.specs.Prelude.{Ok, Err}
 use Prim.Native.Nat.{ℕ, ◌≤◌, ◌<◌}
 use mathlib.Core.Path.{◌≡◌, refl, sym, ap, ◌∙◌}
 use mathlib.Core.List.{List, [], ◌++◌, append-nil}
@@ -8,8 +9,7 @@ use lib.ListN.{length, take, drop, take-append-drop, drop_of_length-le}
 use lib.Seq.{length-take-le}
 use Rattle.model.specs.declared.order.Order.{Order}
 use Rattle.model.specs.declared.build.Build.{Build}
-use Rattle.model.specs.declared.answer.Answer.{Answer}
-use Rattle.model.specs.declared.answer.Answer.TheVariants.{Done, Refused}
+use Rattle.model.specs.Kinds.{Answer}
 use Rattle.model.specs.Answer.{output_after}
 use Rattle.model.specs.Rules.{first_broken}
 use Rattle.model.proofs.Output.{after_refused, after_done}
@@ -36,9 +36,9 @@ module _ (o : Order) (b : Build) (script output : List ℕ) (k : ℕ) (is : k �
 
   joins : (answer : Answer) (front : List ℕ) → answer ≡ first_broken (records_in script) (script_rules o script (length (take k output))) → front ≡ output_after answer ticks (take k output)
       → front ++ drop k output ≡ output_after answer ticks output
-  joins (Refused cause) front a e =
+  joins (Err cause) front a e =
       ap (λ (xs : List ℕ). xs ++ drop k output) (e ∙ after_refused cause ticks (take k output)) ∙ take-append-drop k output ∙ sym (after_refused cause ticks output)
-  joins (Done count) front a e =
+  joins (Ok count) front a e =
       let same : count ≡ k = done_count (records_in script) (script_rules o script (length (take k output))) (sym a) ∙ sym is in
       ap (λ (xs : List ℕ). xs ++ drop k output) (e ∙ after_done count ticks (take k output) ∙ ap (λ (n : ℕ). ticks ++ drop n (take k output)) same ∙ ap (λ (xs : List ℕ). ticks ++ xs) nothing_behind ∙ append-nil ticks)
       ∙ ap (λ (n : ℕ). ticks ++ drop n output) (sym same) ∙ sym (after_done count ticks output)

@@ -1,4 +1,5 @@
 -- The script of an accepted order and build: what the course of the machines needs, and what was written after it.
+use Rattle.std.specs.Prelude.{Ok, Err}
 use Prim.Native.Nat.{ℕ}
 use mathlib.Core.Path.{◌≡◌, sym, ◌∙◌}
 use mathlib.Core.List.{List, ◌++◌}
@@ -6,8 +7,7 @@ use native.Mathlib.Omega.{arith}
 use lib.ListN.{length, drop}
 use Rattle.model.specs.declared.order.Order.{Order}
 use Rattle.model.specs.declared.build.Build.{Build}
-use Rattle.model.specs.declared.answer.Answer.{Answer}
-use Rattle.model.specs.declared.answer.Answer.TheVariants.{Done, Refused}
+use Rattle.model.specs.Kinds.{Answer}
 use Rattle.model.specs.declared.answer.Refusal.{Refusal}
 use Rattle.model.proofs.Output.{after_refused, after_done}
 use Rattle.model.proofs.Rules.{done_count}
@@ -23,11 +23,11 @@ use Rattle.run.proofs.Chain.{script_accepted}
 
 module _ (o : Order) (b : Build) (script output keys durations : List ℕ) {answer : Answer} (judged : JudgesScript o script (length output) keys durations answer) where
   -- a script that is refused leaves the output
-  pub ran_none : {cause : Refusal} → answer ≡ Refused cause → RanScript o b script output (Refused cause) output
+  pub ran_none : {cause : Refusal} → answer ≡ Err cause → RanScript o b script output (Err cause) output
   ran_none {cause} e = record { script_answer = sym e ∙ judged.answer_is; script_output = sym (after_refused cause (finish_ticks o b (script_of script)) output) }
 
   -- one that is not is run
-  pub runnable : {count : ℕ} → AcceptedBuild o b → answer ≡ Done count → Runnable o b count keys durations (length output)
+  pub runnable : {count : ℕ} → AcceptedBuild o b → answer ≡ Ok count → Runnable o b count keys durations (length output)
   runnable {count} build-accepted e =
       let passed = sym judged.answer_is ∙ e in
       let accepted = script_accepted o script (length output) passed in
@@ -45,7 +45,7 @@ module _ (o : Order) (b : Build) (script output keys durations : List ℕ) {answ
         room = omega (arith, script_length_lem script, accepted.room);
       }
 
-  pub ran_all : {count : ℕ} {after : List ℕ} (build-accepted : AcceptedBuild o b) (e : answer ≡ Done count)
-      → after ≡ finish_ticks o b (runnable build-accepted e).script ++ drop count output → RanScript o b script output (Done count) after
+  pub ran_all : {count : ℕ} {after : List ℕ} (build-accepted : AcceptedBuild o b) (e : answer ≡ Ok count)
+      → after ≡ finish_ticks o b (runnable build-accepted e).script ++ drop count output → RanScript o b script output (Ok count) after
   unfolding runnable
   ran_all {count} build-accepted e written = record { script_answer = sym e ∙ judged.answer_is; script_output = written ∙ sym (after_done count (finish_ticks o b (script_of script)) output) }

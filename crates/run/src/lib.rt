@@ -4,10 +4,10 @@
 ghost use Rattle.inspect.specs.Claims.{AcceptedBuild};
 ghost use Rattle.run.specs.Run.{RanScript, Ran};
 
-use model::{Answer, Build, Order, Release};
+use model::{Build, Order, Refusal, Release};
 
 // 40 to 46 and the finish ticks, of an order and a build that were checked.
-fn run_checked(order: Order, build: Build, script: &[u8], out: &mut [u32]) -> Answer
+fn run_checked(order: Order, build: Build, script: &[u8], out: &mut [u32]) -> Result<u32, Refusal>
     requires { AcceptedBuild order build }
     ensures { RanScript order build script.now out.old result out.new }
 {
@@ -15,22 +15,22 @@ fn run_checked(order: Order, build: Build, script: &[u8], out: &mut [u32]) -> An
     let mut durations = [0u32; Release::MOST];
     let judged = script::judge_script(order, script, out.len(), &mut keys, &mut durations);
     match judged {
-        Answer::Refused(cause) => Answer::Refused(cause),
-        Answer::Done(count) => {
+        Err(cause) => Err(cause),
+        Ok(count) => {
             course::run_all(order, build, count as usize, &keys, &durations, out);
-            Answer::Done(count)
+            Ok(count)
         }
     }
 }
 
 // Runs a release script through a build: the finish tick of each record, or the first refusal.
-pub fn run(order: &[u8], build: &[u8], script: &[u8], out: &mut [u32]) -> Answer
+pub fn run(order: &[u8], build: &[u8], script: &[u8], out: &mut [u32]) -> Result<u32, Refusal>
     ensures { Ran order.now build.now script.now out.old result out.new }
 {
     let checked = inspect::check_both(order, build);
     let answer = checked.answer;
-    if let Answer::Refused(cause) = answer {
-        return Answer::Refused(cause);
+    if let Err(cause) = answer {
+        return Err(cause);
     }
     // Only the front that can be counted is lent on.
     let records = script.len() / Release::BYTES;

@@ -1,4 +1,5 @@
 -- Laws of 40 to 46 as the judge meets them: its branches, and the scan of the records.
+use Rattle.std.specs.Prelude.{Ok, Err}
 use mathlib.Core.Path.{◌≡◌, sym, ap, ◌∙◌}
 use mathlib.Core.Bool.{true, false}
 use mathlib.Core.List.{List}
@@ -10,7 +11,6 @@ use Rattle.laws.specs.Choice.{within}
 use Rattle.laws.specs.Joined.{joined}
 use Rattle.laws.proofs.Every.{and_both}
 use Rattle.model.specs.declared.order.Order.{Order}
-use Rattle.model.specs.declared.answer.Answer.TheVariants.{Done, Refused}
 use Rattle.model.specs.declared.answer.Refusal.TheVariants.{OfScript}
 use Rattle.model.specs.declared.answer.ScriptCause.TheVariants.{ScriptLength, RecordSpare, RecordTask, RecordOrder, JobLength, ReleaseGap, FinishPlaces}
 use Rattle.model.specs.Rules.{first_broken}
@@ -22,11 +22,11 @@ use Rattle.script.proofs.Keys.{ordered_by_key, task_in_key, tick_in_key}
 
 -- 40 and 46
 module _ (count : ℕ) (o : Order) (s : List ℕ) (places : ℕ) where
-  pub not_whole : (whole_records s).test ≡ false → first_broken count (script_rules o s places) ≡ Refused (OfScript ScriptLength)
+  pub not_whole : (whole_records s).test ≡ false → first_broken count (script_rules o s places) ≡ Err (OfScript ScriptLength)
   unfolding script_rules first_broken
   not_whole broken = rw broken
 
-  pub too_few_places : (whole_records s).test ≡ true → leb (records_in s) places ≡ false → first_broken count (script_rules o s places) ≡ Refused (OfScript FinishPlaces)
+  pub too_few_places : (whole_records s).test ≡ true → leb (records_in s) places ≡ false → first_broken count (script_rules o s places) ≡ Err (OfScript FinishPlaces)
   unfolding script_rules first_broken
   too_few_places whole broken = rw (whole, broken)
 
@@ -56,15 +56,15 @@ module _ (o : Order) (s : List ℕ) (i : ℕ) (taken : ReleaseTaken) (tasks most
   gap_test : leb (earliest o (release_at s) (release_at s i).task i) (release_at s i).tick ≡ leb from (taken.key / 32)
   gap_test = rw (told.from_is, told.takes.key_is, tick_in_key s i)
 
-  pub spare_set : (taken.spare ≡ 0 → ⊥) → first_broken 0 (release_rules o s i) ≡ Refused (OfScript (RecordSpare i))
+  pub spare_set : (taken.spare ≡ 0 → ⊥) → first_broken 0 (release_rules o s i) ≡ Err (OfScript (RecordSpare i))
   unfolding release_rules first_broken
   spare_set ne = rw (spare_test, ne_eqb taken.spare 0 ne)
 
-  pub no_such_task : taken.spare ≡ 0 → tasks ≤ taken.key % 32 → first_broken 0 (release_rules o s i) ≡ Refused (OfScript (RecordTask i))
+  pub no_such_task : taken.spare ≡ 0 → tasks ≤ taken.key % 32 → first_broken 0 (release_rules o s i) ≡ Err (OfScript (RecordTask i))
   unfolding release_rules first_broken
   no_such_task e l = rw (spare_test, eq-eqb taken.spare 0 e, task_test, le-ltb (taken.key % 32) tasks l)
 
-  pub out_of_order : taken.spare ≡ 0 → taken.key % 32 < tasks → taken.key < least → first_broken 0 (release_rules o s i) ≡ Refused (OfScript (RecordOrder i))
+  pub out_of_order : taken.spare ≡ 0 → taken.key % 32 < tasks → taken.key < least → first_broken 0 (release_rules o s i) ≡ Err (OfScript (RecordOrder i))
   unfolding release_rules first_broken
   out_of_order e k l = rw (spare_test, eq-eqb taken.spare 0 e, task_test, lt-ltb (taken.key % 32) tasks k, order_test, lt-leb least taken.key l)
 
@@ -72,18 +72,18 @@ module _ (o : Order) (s : List ℕ) (i : ℕ) (taken : ReleaseTaken) (tasks most
   duration_test = rw (told.most_is, told.takes.duration_is)
 
   pub wrong_duration : taken.spare ≡ 0 → taken.key % 32 < tasks → least ≤ taken.key → within 1 most taken.duration ≡ false
-      → first_broken 0 (release_rules o s i) ≡ Refused (OfScript (JobLength i))
+      → first_broken 0 (release_rules o s i) ≡ Err (OfScript (JobLength i))
   unfolding release_rules first_broken
   wrong_duration e k l d = rw (spare_test, eq-eqb taken.spare 0 e, task_test, lt-ltb (taken.key % 32) tasks k, order_test, le-leb least taken.key l, ← duration_test, d)
 
   pub too_close : taken.spare ≡ 0 → taken.key % 32 < tasks → least ≤ taken.key → within 1 most taken.duration ≡ true → leb from (taken.key / 32) ≡ false
-      → first_broken 0 (release_rules o s i) ≡ Refused (OfScript (ReleaseGap i))
+      → first_broken 0 (release_rules o s i) ≡ Err (OfScript (ReleaseGap i))
   unfolding release_rules first_broken
   too_close e k l d g =
       rw (spare_test, eq-eqb taken.spare 0 e, task_test, lt-ltb (taken.key % 32) tasks k, order_test, le-leb least taken.key l, ← duration_test, d, gap_test, g)
 
   pub record_right : taken.spare ≡ 0 → taken.key % 32 < tasks → least ≤ taken.key → within 1 most taken.duration ≡ true → leb from (taken.key / 32) ≡ true
-      → first_broken 0 (release_rules o s i) ≡ Done 0
+      → first_broken 0 (release_rules o s i) ≡ Ok 0
   unfolding release_rules first_broken
   record_right e k l d g =
       rw (spare_test, eq-eqb taken.spare 0 e, task_test, lt-ltb (taken.key % 32) tasks k, order_test, le-leb least taken.key l, ← duration_test, d, gap_test, g)

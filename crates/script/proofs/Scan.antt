@@ -1,4 +1,5 @@
 -- The judge's scan of the records: what it holds after the records below i, and a record more.
+use Rattle.std.specs.Prelude.{Ok}
 use mathlib.Core.Path.{◌≡◌, refl, sym, ap, ◌∙◌}
 use mathlib.Core.List.{List}
 use mathlib.Core.Logic.{⊎_elim}
@@ -9,7 +10,6 @@ use lib.ListN.{length, get_or, set, replicate, length-set}
 use lib.Seq.{get_or-set_same, get_or-set_other}
 use Rattle.laws.specs.Joined.{joined}
 use Rattle.model.specs.declared.order.Order.{Order}
-use Rattle.model.specs.declared.answer.Answer.TheVariants.{Done}
 use Rattle.model.specs.Limits.{most_tasks, most_records}
 use Rattle.model.specs.Rules.{first_broken}
 use Rattle.model.proofs.Rules.{AllPass, done_pass, scan_none, scan_more}
@@ -62,7 +62,7 @@ module _ (o : Order) (s : List ℕ) where
           from_is = ap (λ (k : ℕ). get_or kept k 0) task_is ∙ below.earliest_kept.each (release_at s i).task (task_small s i);
         }
 
-    pub judged_more : {count : ℕ} → i < most_records → first_broken 0 (release_rules o s i) ≡ Done count
+    pub judged_more : {count : ℕ} → i < most_records → first_broken 0 (release_rules o s i) ≡ Ok count
         → JudgedBelow o s (i + 1) (set kept (taken.key % 32) (taken.key / 32 + period_of o (taken.key % 32))) (taken.key + 1) (set keys i taken.key) (set durations i taken.duration)
     judged_more few right =
         record {

@@ -2,7 +2,7 @@
 use Rattle.std.specs.Prelude.{ℕ, ◌≤◌, ◌<◌, ◌≡◌, List, ◌↔◌, length}
 use Rattle.bits.specs.Layout.{Bytes}
 use Rattle.model.specs.declared.order.Order.{Order}
-use Rattle.model.specs.declared.answer.Answer.{Answer}
+use Rattle.model.specs.Kinds.{Answer}
 use Rattle.model.specs.Limits.{most_records}
 use Rattle.model.specs.Layouts.{script_length}
 use Rattle.model.specs.Rules.{AllKept, RightAnswer, first_broken}

@@ -1,10 +1,9 @@
 -- What the reader takes of a record, what its judge is told beside it, and what judging a script gives.
-use Rattle.std.specs.Prelude.{ℕ, zero, suc, ◌+◌, ◌*◌, ◌<◌, ◌≡◌, List, length, get_or}
+use Rattle.std.specs.Prelude.{ℕ, zero, suc, ◌+◌, ◌*◌, ◌<◌, ◌≡◌, List, length, get_or, Ok}
 use Rattle.laws.specs.Joined.{joined}
 use Rattle.model.specs.declared.order.Order.{Order}
 use Rattle.model.specs.declared.build.Release.{Release}
-use Rattle.model.specs.declared.answer.Answer.{Answer}
-use Rattle.model.specs.declared.answer.Answer.TheVariants.{Done}
+use Rattle.model.specs.Kinds.{Answer}
 use Rattle.model.specs.Limits.{most_records}
 use Rattle.model.specs.Rules.{first_broken}
 use Rattle.machine.specs.Pattern.{run_of}
@@ -47,9 +46,9 @@ pub record HeldBelow (s : List ℕ) (records : ℕ) (keys durations : List ℕ) 
 -- record by record 41 to 45; where all hold, the numbers of these records stand in the arrays
 pub record JudgesRecords (o : Order) (s : List ℕ) (records : ℕ) (keys durations : List ℕ) (answer : Answer) : Type 0 where
   pub answers : answer ≡ first_broken records (joined (release_rules o s) records)
-  pub holds : (count : ℕ) → answer ≡ Done count → HeldBelow s records keys durations
+  pub holds : (count : ℕ) → answer ≡ Ok count → HeldBelow s records keys durations
 
 -- 40, 46, then 41 to 45; where all hold, the script's numbers stand in the arrays
 pub record JudgesScript (o : Order) (s : List ℕ) (places : ℕ) (keys durations : List ℕ) (answer : Answer) : Type 0 where
   pub answer_is : answer ≡ first_broken (records_in s) (script_rules o s places)
-  pub numbers_held : (count : ℕ) → answer ≡ Done count → Held (script_of s) keys durations
+  pub numbers_held : (count : ℕ) → answer ≡ Ok count → Held (script_of s) keys durations

@@ -9,7 +9,7 @@ ghost use Rattle.model.specs.Layouts.{release_record, script_length};
 ghost use Rattle.model.specs.Rules.{WithinLimits};
 ghost use Rattle.script.specs.Judged.{TakesRelease, JudgesRelease, JudgesRecords, JudgesScript};
 
-use model::{Answer, Order, Refusal, Release, ScriptCause};
+use model::{Order, Refusal, Release, ScriptCause};
 
 // A record taken: tick * 32 + task, its length and its spare bits.
 #[derive(Clone, Copy)]
@@ -55,27 +55,27 @@ fn judge_release(
     least: u32,
     from: u32,
     i: u16,
-) -> Answer
+) -> Result<u32, Refusal>
     ensures { JudgesRelease taken tasks most least from i result }
 {
     let lasts = model::within(1, most, taken.duration);
     let apart = from <= taken.key / 32;
     if taken.spare != 0 {
-        return Answer::Refused(Refusal::OfScript(ScriptCause::RecordSpare(i)));
+        return Err(Refusal::OfScript(ScriptCause::RecordSpare(i)));
     }
     if tasks <= taken.key % 32 {
-        return Answer::Refused(Refusal::OfScript(ScriptCause::RecordTask(i)));
+        return Err(Refusal::OfScript(ScriptCause::RecordTask(i)));
     }
     if taken.key < least {
-        return Answer::Refused(Refusal::OfScript(ScriptCause::RecordOrder(i)));
+        return Err(Refusal::OfScript(ScriptCause::RecordOrder(i)));
     }
     if !lasts {
-        return Answer::Refused(Refusal::OfScript(ScriptCause::JobLength(i)));
+        return Err(Refusal::OfScript(ScriptCause::JobLength(i)));
     }
     if !apart {
-        return Answer::Refused(Refusal::OfScript(ScriptCause::ReleaseGap(i)));
+        return Err(Refusal::OfScript(ScriptCause::ReleaseGap(i)));
     }
-    Answer::Done(0)
+    Ok(0)
 }
 
 // 41 to 45, record by record; earliest holds the first tick at which each task may be released again.
@@ -85,7 +85,7 @@ fn judge_records(
     records: usize,
     keys: &mut [u32; Release::MOST],
     durations: &mut [u32; Release::MOST],
-) -> Answer
+) -> Result<u32, Refusal>
     requires { WithinLimits order × (records ≤ most_records) × (script_length 1 records ≤ length script.now) × (length keys.old ≡ most_records) × (length durations.old ≡ most_records) }
     ensures { JudgesRecords order script.now records keys.new durations.new result }
 {
@@ -100,8 +100,8 @@ fn judge_records(
         let k = (key % 32) as usize;
         let task = table[k];
         let judged = judge_release(taken, tasks, task.run, least, earliest[k], i as u16);
-        if let Answer::Refused(cause) = judged {
-            return Answer::Refused(cause);
+        if let Err(cause) = judged {
+            return Err(cause);
         }
         keys[i] = key;
         durations[i] = taken.duration;
@@ -109,7 +109,7 @@ fn judge_records(
         least = key + 1;
         i += 1;
     }
-    Answer::Done(records as u32)
+    Ok(records as u32)
 }
 
 // Whether so many bytes are whole records, and few enough.
@@ -130,7 +130,7 @@ pub fn judge_script(
     places: usize,
     keys: &mut [u32; Release::MOST],
     durations: &mut [u32; Release::MOST],
-) -> Answer
+) -> Result<u32, Refusal>
     requires { WithinLimits order × (length keys.old ≡ most_records) × (length durations.old ≡ most_records) }
     ensures { JudgesScript order script.now places keys.new durations.new result }
 {
@@ -139,10 +139,10 @@ pub fn judge_script(
     let whole = whole_records(size);
     let room = records <= places;
     if !whole {
-        return Answer::Refused(Refusal::OfScript(ScriptCause::ScriptLength));
+        return Err(Refusal::OfScript(ScriptCause::ScriptLength));
     }
     if !room {
-        return Answer::Refused(Refusal::OfScript(ScriptCause::FinishPlaces));
+        return Err(Refusal::OfScript(ScriptCause::FinishPlaces));
     }
     judge_records(order, script, records, keys, durations)
 }

@@ -1,8 +1,2 @@
-// The smallest number of a range that passes a test: what every search of the response test answers.
+// The smallest number of a range that passes a test: what every search of the response test answers; no code.
 #![tactic(auto)]
-
-#[derive(Clone, Copy)]
-pub enum Found {
-    At(u64),
-    Nothing,
-}

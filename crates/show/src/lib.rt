@@ -6,7 +6,7 @@ ghost use Rattle.model.specs.Limits.{most_tasks, most_partitions};
 ghost use Rattle.io.specs.Counts.{IsPrefixLen};
 
 use build::BuildHeader;
-use model::{Answer, Build, Member, Order, Partition, Refusal};
+use model::{Build, Member, Order, Partition, Refusal};
 use std::io;
 use std::io::Read;
 
@@ -110,8 +110,8 @@ pub fn show_plan(rt: &(impl Print + Eprint), order: &[u8]) -> io::Result<()> {
     let mut bytes = [0u8; Build::MOST_BYTES];
     let answer = plan::plan(order, &mut bytes);
     match answer {
-        Answer::Done(_) => show_build(rt, &bytes),
-        Answer::Refused(cause) => show_refusal(rt, cause),
+        Ok(_) => show_build(rt, &bytes),
+        Err(cause) => show_refusal(rt, cause),
     }
 }
 

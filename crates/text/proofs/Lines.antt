@@ -1,4 +1,5 @@
 -- Line i of a text, taken from the place where the i lines before it end.
+use Rattle.std.specs.Prelude.{Err}
 use mathlib.Core.Path.{◌≡◌, refl, sym, ap, ◌∙◌}
 use mathlib.Core.Bool.{Bool, true, false}
 use mathlib.Core.List.{List}
@@ -13,7 +14,6 @@ use borrow.Author.Tests.{le-leb, lt-leb, lt-ltb, le-ltb, ltb-true}
 use Rattle.laws.specs.Sums.{only}
 use Rattle.laws.proofs.Choice.{both}
 use Rattle.model.specs.declared.order.Task.{Task}
-use Rattle.model.specs.declared.answer.Answer.TheVariants.{Refused}
 use Rattle.model.specs.declared.answer.Refusal.TheVariants.{OfText}
 use Rattle.model.specs.declared.answer.TextCause.TheVariants.{LineShape, LineNumber}
 use Rattle.model.specs.Rules.{first_broken}
@@ -113,11 +113,11 @@ module _ (text : List ℕ) (i : ℕ) where
   unfolding line_rules AllPass
   line_passes shape fit = (shape, (fit, tt))
 
-  pub shape_stops : (count : ℕ) → (shaped text i).test ≡ false → first_broken count (line_rules text i) ≡ Refused (OfText (LineShape i))
+  pub shape_stops : (count : ℕ) → (shaped text i).test ≡ false → first_broken count (line_rules text i) ≡ Err (OfText (LineShape i))
   unfolding line_rules first_broken
   shape_stops count shape = rw shape
 
-  pub number_stops : (count : ℕ) → (shaped text i).test ≡ true → (typed_fits text i).test ≡ false → first_broken count (line_rules text i) ≡ Refused (OfText (LineNumber i))
+  pub number_stops : (count : ℕ) → (shaped text i).test ≡ true → (typed_fits text i).test ≡ false → first_broken count (line_rules text i) ≡ Err (OfText (LineNumber i))
   unfolding line_rules first_broken
   number_stops count shape fit = rw (shape, fit)
 

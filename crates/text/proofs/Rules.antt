@@ -1,4 +1,5 @@
 -- The rules of reading a text in turn: 52, then line by line 50 and 51, then the writer's.
+use Rattle.std.specs.Prelude.{Err}
 use mathlib.Core.Path.{◌≡◌, sym, ap, ◌∙◌, subst}
 use lib.ListN.{length}
 use mathlib.Core.List.{List}
@@ -7,8 +8,7 @@ use borrow.Author.Tests.{le-leb, lt-leb}
 use Rattle.laws.specs.Joined.{joined, filled}
 use Rattle.model.specs.declared.order.Task.{Task}
 use Rattle.model.specs.declared.order.Order.{Order}
-use Rattle.model.specs.declared.answer.Answer.{Answer}
-use Rattle.model.specs.declared.answer.Answer.TheVariants.{Refused}
+use Rattle.model.specs.Kinds.{Answer}
 use Rattle.model.specs.declared.answer.Refusal.{Refusal}
 use Rattle.model.specs.declared.answer.Refusal.TheVariants.{OfText}
 use Rattle.model.specs.declared.answer.TextCause.TheVariants.{LineCount}
@@ -21,7 +21,7 @@ use Rattle.form.specs.Text.{line_count, typed_task, text_order}
 use Rattle.text.specs.Read.{line_rules, text_rules, read_text_rules, read_text_answer, ReadsText}
 
 module _ (processors : ℕ) (text : List ℕ) (room : ℕ) where
-  pub text_many : most_tasks < line_count text → read_text_answer processors text room ≡ Refused (OfText LineCount)
+  pub text_many : most_tasks < line_count text → read_text_answer processors text room ≡ Err (OfText LineCount)
   unfolding read_text_answer read_text_rules text_rules first_broken
   text_many many = rw (lt-leb (line_count text) most_tasks many)
 
@@ -29,7 +29,7 @@ module _ (processors : ℕ) (text : List ℕ) (room : ℕ) where
   lines = joined (line_rules text) (line_count text)
 
   module _ (few : line_count text ≤ most_tasks) where
-    pub text_stops : (refusal : Refusal) → first_broken 0 (joined (line_rules text) (line_count text)) ≡ Refused refusal → read_text_answer processors text room ≡ Refused refusal
+    pub text_stops : (refusal : Refusal) → first_broken 0 (joined (line_rules text) (line_count text)) ≡ Err refusal → read_text_answer processors text room ≡ Err refusal
     unfolding read_text_answer read_text_rules text_rules first_broken
     text_stops refusal refused = rw (le-leb (line_count text) most_tasks few) (stop (order_length 1 (line_count text)) lines (written_rules (text_order processors text) room) refusal (any_count 0 (order_length 1 (line_count text)) lines refusal refused))
 

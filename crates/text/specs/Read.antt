@@ -3,7 +3,7 @@ use Rattle.std.specs.Prelude.{ℕ, ◌<◌, ◌≡◌, false, List, [], ◌∷�
 use Rattle.laws.specs.Choice.{pick}
 use Rattle.laws.specs.Joined.{joined}
 use Rattle.model.specs.declared.order.Task.{Task}
-use Rattle.model.specs.declared.answer.Answer.{Answer}
+use Rattle.model.specs.Kinds.{Answer}
 use Rattle.model.specs.declared.answer.Refusal.TheVariants.{OfText}
 use Rattle.model.specs.declared.answer.TextCause.TheVariants.{LineShape, LineNumber, LineCount}
 use Rattle.model.specs.Limits.{most_tasks}

@@ -7,14 +7,14 @@ ghost use Rattle.form.specs.Text.{finished_lines, is_unfinished, line_count};
 ghost use Rattle.text.specs.Read.{ReadsText};
 ghost use Rattle.text.specs.Taken.{TakesLines};
 
-use model::{Answer, Order, Refusal, Task, TextCause};
+use model::{Order, Refusal, Task, TextCause};
 use typed::is_line_feed;
 use typed_line::{numbers_fit, take_line};
 
 // The lines taken: 50 and 51, and the table.
 #[derive(Clone, Copy)]
 pub struct LinesTaken {
-    pub answer: Answer,
+    pub answer: Result<u32, Refusal>,
     pub table: [Task; Order::MOST_TASKS],
 }
 
@@ -68,14 +68,14 @@ fn take_lines(text: &[u8], lines: usize) -> LinesTaken
         let taken = take_line(text, at);
         if !taken.shaped {
             return LinesTaken {
-                answer: Answer::Refused(Refusal::OfText(TextCause::LineShape(i as u16))),
+                answer: Err(Refusal::OfText(TextCause::LineShape(i as u16))),
                 table,
             };
         }
         let task = taken.task;
         if !numbers_fit(task) {
             return LinesTaken {
-                answer: Answer::Refused(Refusal::OfText(TextCause::LineNumber(i as u16))),
+                answer: Err(Refusal::OfText(TextCause::LineNumber(i as u16))),
                 table,
             };
         }
@@ -84,23 +84,23 @@ fn take_lines(text: &[u8], lines: usize) -> LinesTaken
         i += 1;
     }
     LinesTaken {
-        answer: Answer::Done(0),
+        answer: Ok(0),
         table,
     }
 }
 
 // The order that a text has, as its bytes: 52, then line by line 50 and 51, then the writer's.
-pub fn read_text(processors: u32, text: &[u8], out: &mut [u8]) -> Answer
+pub fn read_text(processors: u32, text: &[u8], out: &mut [u8]) -> Result<u32, Refusal>
     ensures { ReadsText processors text.now out.old result out.new }
 {
     let lines = count_lines(text);
     if lines > Order::MOST_TASKS {
-        return Answer::Refused(Refusal::OfText(TextCause::LineCount));
+        return Err(Refusal::OfText(TextCause::LineCount));
     }
     let taken = take_lines(text, lines);
     let typed = taken.answer;
-    if let Answer::Refused(cause) = typed {
-        return Answer::Refused(cause);
+    if let Err(cause) = typed {
+        return Err(cause);
     }
     let table = taken.table;
     let order = Order {

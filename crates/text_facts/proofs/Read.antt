@@ -1,11 +1,11 @@
 -- The claims of reading a text.
+use Rattle.std.specs.Prelude.{Ok}
 use mathlib.Core.Path.{◌≡◌, sym, ap, ◌∙◌, subst}
 use mathlib.Core.List.{List, ◌++◌}
 use Prim.Native.Nat.{ℕ, ◌≤◌}
 use lib.ListN.{length, drop}
 use Rattle.model.specs.declared.order.Order.{Order}
-use Rattle.model.specs.declared.answer.Answer.{Answer}
-use Rattle.model.specs.declared.answer.Answer.TheVariants.{Done}
+use Rattle.model.specs.Kinds.{Answer}
 use Rattle.model.specs.Answer.{output_after}
 use Rattle.model.specs.Layouts.{order_length}
 use Rattle.model.specs.Rules.{AllKept, OneRightAnswer}
@@ -24,7 +24,7 @@ unfolding OneRightAnswer read_text_answer
 one_text_reading processors text room answer = one_right_answer _ (read_text_rules processors text room) (read_text_tells processors text room) answer
 
 -- an accepted text
-module _ (processors : ℕ) (text : List ℕ) (room count : ℕ) (e : read_text_answer processors text room ≡ Done count) where
+module _ (processors : ℕ) (text : List ℕ) (room count : ℕ) (e : read_text_answer processors text room ≡ Ok count) where
   read_kept : AllKept (read_text_rules processors text room)
   unfolding read_text_answer
   read_kept = pass_kept _ (read_text_tells processors text room) (done_pass _ _ e)
@@ -41,14 +41,14 @@ module _ (processors : ℕ) (text : List ℕ) (room count : ℕ) (e : read_text_
   read_typed = kept_typed processors text room read_kept
 
 -- a text of an order within the limits, and room
-pub read_done : (processors : ℕ) (text : List ℕ) (o : Order) (room : ℕ) → Typed processors text o → order_length 1 o.tasks ≤ room → read_text_answer processors text room ≡ Done (order_length 1 o.tasks)
+pub read_done : (processors : ℕ) (text : List ℕ) (o : Order) (room : ℕ) → Typed processors text o → order_length 1 o.tasks ≤ room → read_text_answer processors text room ≡ Ok (order_length 1 o.tasks)
 unfolding read_text_answer
 read_done processors text o room is fits =
     pass_done _ (read_text_rules processors text room) (kept_pass _ (read_text_tells processors text room) (typed_kept processors text o is room fits))
-    ∙ ap (λ (n : ℕ). Done (order_length 1 n)) (text_lines is.typed)
+    ∙ ap (λ (n : ℕ). Ok (order_length 1 n)) (text_lines is.typed)
 
 -- what a done reading leaves
-pub read_after : (processors : ℕ) (text output : List ℕ) (answer : Answer) (after : List ℕ) (count : ℕ) → ReadsText processors text output answer after → answer ≡ Done count
+pub read_after : (processors : ℕ) (text output : List ℕ) (answer : Answer) (after : List ℕ) (count : ℕ) → ReadsText processors text output answer after → answer ≡ Ok count
     → after ≡ order_bytes (text_order processors text) ++ drop count output
 read_after processors text output answer after count w e =
     let front = order_bytes (text_order processors text) in w.written ∙ ap (λ (a : Answer). output_after a front output) e ∙ after_done count front output
@@ -56,14 +56,14 @@ read_after processors text output answer after count w e =
 pub text_accepted_exactly : TextAcceptedExactly
 text_accepted_exactly processors text output answer after count w = (
   (λ e.
-      let done : read_text_answer processors text (length output) ≡ Done count = sym w.answered ∙ e in (
+      let done : read_text_answer processors text (length output) ≡ Ok count = sym w.answered ∙ e in (
         text_order processors text,
         read_typed processors text (length output) count done,
         read_count processors text (length output) count done,
         read_room processors text (length output) count done,
         read_after processors text output answer after count w e,
       )),
-  (λ r. w.answered ∙ read_done processors text r.0 (length output) r.1 (subst (◌≤ length output) r.2 r.3) ∙ ap Done (sym r.2)),
+  (λ r. w.answered ∙ read_done processors text r.0 (length output) r.1 (subst (◌≤ length output) r.2 r.3) ∙ ap Ok (sym r.2)),
 )
 
 pub read_text_keeps : ReadTextKeeps
@@ -71,7 +71,7 @@ read_text_keeps processors text output answer after w =
     rw w.written (
     only_counted_front answer (order_bytes (text_order processors text)) output
     (λ count e.
-    let done : read_text_answer processors text (length output) ≡ Done count = sym w.answered ∙ e in
+    let done : read_text_answer processors text (length output) ≡ Ok count = sym w.answered ∙ e in
     (length_order (text_order processors text) ∙ sym (read_count processors text (length output) count done), read_room processors text (length output) count done))
     )
 

@@ -1,4 +1,5 @@
 -- What the lines of any bytes are; and when each of the text's own refusals is given: 52, then line by line 50 and 51.
+use Rattle.std.specs.Prelude.{Err}
 use mathlib.Core.Path.{◌≡◌, refl, sym, ap, ◌∙◌, subst}
 use mathlib.Core.Bool.{Bool, true, false}
 use mathlib.Core.List.{List, []}
@@ -9,7 +10,6 @@ use Rattle.laws.specs.Joined.{joined}
 use Rattle.laws.proofs.Every.{clash}
 use Rattle.model.specs.declared.order.Task.{Task}
 use Rattle.model.specs.declared.order.Order.{Order}
-use Rattle.model.specs.declared.answer.Answer.TheVariants.{Refused}
 use Rattle.model.specs.declared.answer.Refusal.{Refusal}
 use Rattle.model.specs.declared.answer.Refusal.TheVariants.{OfOrder, OfText}
 use Rattle.model.specs.declared.answer.OrderCause.{OrderCause}
@@ -100,7 +100,7 @@ module _ (processors : ℕ) (text : List ℕ) (room : ℕ) where
       let r = offence_at (line_rules text) (line_count text) (OfText cause) offence in
       inr (r.0, good_before r.0 few r.1 r.2, r.3)
 
-  refused_where : (cause : TextCause) → read_text_answer processors text room ≡ Refused (OfText cause) → ((most_tasks < line_count text) × (LineCount ≡ cause)) ⊎ FirstAt text cause
+  refused_where : (cause : TextCause) → read_text_answer processors text room ≡ Err (OfText cause) → ((most_tasks < line_count text) × (LineCount ≡ cause)) ⊎ FirstAt text cause
   unfolding read_text_answer read_text_rules
   refused_where cause e =
       let o = text_order processors text in
@@ -108,7 +108,7 @@ module _ (processors : ℕ) (text : List ℕ) (room : ℕ) where
       (offence_cut (text_rules text) (written_rules o room) (OfText cause) (refused_offence _ (read_text_rules processors text room) (OfText cause) (read_text_tells processors text room) e))
 
   -- a line is refused where all before it is good
-  line_refused : (i : ℕ) (refusal : Refusal) → GoodBefore text i → FirstOffence (line_rules text i) refusal → read_text_answer processors text room ≡ Refused refusal
+  line_refused : (i : ℕ) (refusal : Refusal) → GoodBefore text i → FirstOffence (line_rules text i) refusal → read_text_answer processors text room ≡ Err refusal
   unfolding line_rules AllKept shaped typed_fits
   line_refused i refusal good offence =
       let kept : AllKept (joined (line_rules text) i) = kept_all (line_rules text) i (λ k below. (good.each_shaped k below, (good.each_fits k below, tt))) in

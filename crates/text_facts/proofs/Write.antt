@@ -1,11 +1,11 @@
 -- The claims of writing a text.
+use Rattle.std.specs.Prelude.{Ok}
 use mathlib.Core.Path.{◌≡◌, refl, sym, ap, ◌∙◌}
 use mathlib.Core.List.{List, ◌++◌}
 use Prim.Native.Nat.{ℕ}
 use lib.ListN.{length, take, drop}
 use lib.Seq.{take_at}
-use Rattle.model.specs.declared.answer.Answer.{Answer}
-use Rattle.model.specs.declared.answer.Answer.TheVariants.{Done}
+use Rattle.model.specs.Kinds.{Answer}
 use Rattle.model.specs.Answer.{output_after}
 use Rattle.model.specs.Rules.{first_broken, OneRightAnswer, room_rules}
 use Rattle.model.proofs.Rules.{AllPass, one_right_answer}
@@ -26,11 +26,11 @@ module _ (order output : List ℕ) (answer : Answer) (after : List ℕ) (w : Wri
   unfolding write_text_answer write_text_rules
   answered_by = w.answered
 
-  pub write_accepts : (count : ℕ) → answer ≡ Done count → AllPass (order_rules order)
+  pub write_accepts : (count : ℕ) → answer ≡ Ok count → AllPass (order_rules order)
   write_accepts count e = wrote_kept (order_rules order) _ (text_of order) output answer after answered_by w.written count e
 
   -- the counted front is the text
-  pub write_front : (count : ℕ) → answer ≡ Done count → take count after ≡ text_of order
+  pub write_front : (count : ℕ) → answer ≡ Ok count → take count after ≡ text_of order
   write_front count e =
       ap (take count) (wrote_front (order_rules order) _ (text_of order) output answer after answered_by w.written count e)
       ∙ take_at (text_of order) (drop count output) count (sym (wrote_count (order_rules order) _ (text_of order) output answer after answered_by w.written count e))

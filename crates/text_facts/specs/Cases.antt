@@ -1,9 +1,8 @@
 -- The accident, over whole texts: what is typed here is read as these ticks, or refused at its line.
-use Rattle.std.specs.Prelude.{ℕ, ◌≡◌, List, [], ◌∷◌, ◌++◌}
+use Rattle.std.specs.Prelude.{ℕ, ◌≡◌, List, [], ◌∷◌, ◌++◌, Ok, Err}
 use Prim.Native.String.{String}
 use Rattle.laws.specs.Joined.{joined}
 use Rattle.model.specs.declared.order.Task.{Task}
-use Rattle.model.specs.declared.answer.Answer.TheVariants.{Done, Refused}
 use Rattle.model.specs.declared.answer.Refusal.TheVariants.{OfOrder, OfText}
 use Rattle.model.specs.declared.answer.TextCause.TheVariants.{LineShape, LineNumber, LineCount}
 use Rattle.model.specs.declared.answer.OrderCause.TheVariants.{Processors, Tasks}
@@ -17,15 +16,15 @@ times period deadline run = record { width = 1; period = period; deadline = dead
 
 -- on four processors: the text is one line, and is accepted as this task
 pub record ReadAs (text : String) (t : Task) : Type 0 where
-  pub done : read_text_answer 4 (bytes_of text) 12 ≡ Done (order_length 1 1)
+  pub done : read_text_answer 4 (bytes_of text) 12 ≡ Ok (order_length 1 1)
   pub typed : typed_task (bytes_of text) 0 ≡ t
 
 -- the text is refused 50 at this line
 abbrev pub Unshaped : String → ℕ → Type 0
-Unshaped text line = read_text_answer 4 (bytes_of text) 291 ≡ Refused (OfText (LineShape line))
+Unshaped text line = read_text_answer 4 (bytes_of text) 291 ≡ Err (OfText (LineShape line))
 
 abbrev pub Over : String → ℕ → Type 0
-Over text line = read_text_answer 4 (bytes_of text) 291 ≡ Refused (OfText (LineNumber line))
+Over text line = read_text_answer 4 (bytes_of text) 291 ≡ Err (OfText (LineNumber line))
 
 -- so many lines of one task
 abbrev pub lines_of : ℕ → List ℕ
@@ -60,9 +59,9 @@ pub record Cases : Type 0 where
   pub unfinished_over : Unshaped "1;10485.76;75;75" 0
   pub width_over : Over "1048576;75;75;75\n" 0
   -- "52 (before M is looked at)", an unfinished last line counted
-  pub most_lines : read_text_answer 4 (lines_of 32) 291 ≡ Done 291
-  pub line_more : read_text_answer 0 (lines_of 33) 291 ≡ Refused (OfText LineCount)
-  pub line_begun : read_text_answer 0 (lines_of 32 ++ bytes_of "x") 291 ≡ Refused (OfText LineCount)
+  pub most_lines : read_text_answer 4 (lines_of 32) 291 ≡ Ok 291
+  pub line_more : read_text_answer 0 (lines_of 33) 291 ≡ Err (OfText LineCount)
+  pub line_begun : read_text_answer 0 (lines_of 32 ++ bytes_of "x") 291 ≡ Err (OfText LineCount)
   -- "Empty text has no lines: 3 or 4."
-  pub no_processors : read_text_answer 0 (bytes_of "") 291 ≡ Refused (OfOrder Processors)
-  pub no_lines : read_text_answer 4 (bytes_of "") 291 ≡ Refused (OfOrder Tasks)
+  pub no_processors : read_text_answer 0 (bytes_of "") 291 ≡ Err (OfOrder Processors)
+  pub no_lines : read_text_answer 4 (bytes_of "") 291 ≡ Err (OfOrder Tasks)

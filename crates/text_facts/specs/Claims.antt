@@ -1,12 +1,11 @@
 -- The form's text read as the buyer typed it, or refused; and written: correct, complete, and with one meaning. Proved in proofs/.
 -- What a text is stands in crates/form/specs: numbers, times, lines and texts as relations on bytes.
-use Rattle.std.specs.Prelude.{ℕ, ◌+◌, ◌≤◌, ◌<◌, ◌^◌, ◌≡◌, List, [], ◌∷◌, ◌++◌, ◌↔◌, length, get_or, take, drop}
+use Rattle.std.specs.Prelude.{ℕ, ◌+◌, ◌≤◌, ◌<◌, ◌^◌, ◌≡◌, List, [], ◌∷◌, ◌++◌, ◌↔◌, length, get_or, take, drop, Ok, Err}
 use Rattle.laws.specs.Joined.{joined}
 use Rattle.bits.specs.Layout.{Bytes}
 use Rattle.model.specs.declared.order.Task.{Task}
 use Rattle.model.specs.declared.order.Order.{Order}
-use Rattle.model.specs.declared.answer.Answer.{Answer}
-use Rattle.model.specs.declared.answer.Answer.TheVariants.{Done, Refused}
+use Rattle.model.specs.Kinds.{Answer}
 use Rattle.model.specs.declared.answer.Refusal.TheVariants.{OfText}
 use Rattle.model.specs.declared.answer.TextCause.TheVariants.{LineShape, LineNumber, LineCount}
 use Rattle.model.specs.Answer.{OnlyCountedFront}
@@ -35,7 +34,7 @@ pub record Typed (processors : ℕ) (text : List ℕ) (o : Order) : Type 0 where
 abbrev pub TextAcceptedExactly : Type 0
 TextAcceptedExactly = (processors : ℕ) (text output : List ℕ) (answer : Answer) (after : List ℕ) (count : ℕ)
     → ReadsText processors text output answer after
-    → (answer ≡ Done count) ↔ ((o : Order) × Typed processors text o × (count ≡ order_length 1 o.tasks) × (count ≤ length output) × (after ≡ order_bytes o ++ drop count output))
+    → (answer ≡ Ok count) ↔ ((o : Order) × Typed processors text o × (count ≡ order_length 1 o.tasks) × (count ≤ length output) × (after ≡ order_bytes o ++ drop count output))
 
 -- one meaning: of a number, of a time, of a line, and of a text
 abbrev pub OneValue : Type 0
@@ -77,17 +76,17 @@ pub record GoodBefore (text : List ℕ) (i : ℕ) : Type 0 where
 -- 52 exactly when there are "more than 32 lines, an unfinished last one counted"
 abbrev pub LinesRefusedExactly : Type 0
 LinesRefusedExactly = (processors : ℕ) (text : List ℕ) (room : ℕ)
-    → (read_text_answer processors text room ≡ Refused (OfText LineCount)) ↔ (most_tasks < line_count text)
+    → (read_text_answer processors text room ≡ Err (OfText LineCount)) ↔ (most_tasks < line_count text)
 
 -- 50 at line i exactly when all before it is good, and it is "not of this shape or unfinished"
 abbrev pub ShapeRefusedExactly : Type 0
 ShapeRefusedExactly = (processors : ℕ) (text : List ℕ) (room i : ℕ)
-    → (read_text_answer processors text room ≡ Refused (OfText (LineShape i))) ↔ (GoodBefore text i × (Shaped text i → ⊥))
+    → (read_text_answer processors text room ≡ Err (OfText (LineShape i))) ↔ (GoodBefore text i × (Shaped text i → ⊥))
 
 -- 51 at line i exactly when all before it is good, it is of the shape and finished, and the task typed in it has "a number over 1,048,575"
 abbrev pub NumberRefusedExactly : Type 0
 NumberRefusedExactly = (processors : ℕ) (text : List ℕ) (room i : ℕ)
-    → (read_text_answer processors text room ≡ Refused (OfText (LineNumber i))) ↔ (GoodBefore text i × Shaped text i × ((t : Task) × IsLine (typed_line text i) t × (NumbersFit t → ⊥)))
+    → (read_text_answer processors text room ≡ Err (OfText (LineNumber i))) ↔ (GoodBefore text i × Shaped text i × ((t : Task) × IsLine (typed_line text i) t × (NumbersFit t → ⊥)))
 
 -- of the writer too, one answer is right
 abbrev pub OneTextWriting : Type 0
@@ -108,10 +107,10 @@ NoLeadingZeros = (x : ℕ) → x < 2 ^ 32 → IsNumber (numeral x) x × (1 < len
 -- "reading it back gives the same order", byte for byte
 abbrev pub TextReadBack : Type 0
 TextReadBack = (order output : List ℕ) (written : Answer) (after : List ℕ) (count : ℕ)
-    → Bytes order → WritesText order output written after → written ≡ Done count
+    → Bytes order → WritesText order output written after → written ≡ Ok count
     → (room : List ℕ) (read : Answer) (back : List ℕ)
     → ReadsText (order_at order).processors (take count after) room read back → length order ≤ length room
-    → (read ≡ Done (length order)) × (back ≡ order ++ drop (length order) room)
+    → (read ≡ Ok (length order)) × (back ≡ order ++ drop (length order) room)
 
 -- "On refusal the output is unchanged; on success only the counted front changes."
 abbrev pub ReadTextKeeps : Type 0

@@ -1,6 +1,6 @@
 -- Writing text from an order: "the order's 1 to 10, then 12".
 use Rattle.std.specs.Prelude.{ℕ, ◌≡◌, List, ◌++◌, length}
-use Rattle.model.specs.declared.answer.Answer.{Answer}
+use Rattle.model.specs.Kinds.{Answer}
 use Rattle.model.specs.Answer.{output_after}
 use Rattle.model.specs.Rules.{Rule, first_broken, room_rules}
 use Rattle.order.specs.Order.{order_at, order_rules}

@@ -8,7 +8,7 @@ ghost use Rattle.form.specs.Written.{time_text, line_text, order_text};
 ghost use Rattle.put.specs.Put.{HasRoom, PutsAt};
 ghost use Rattle.text_out.specs.Write.{WritesText};
 
-use model::{Answer, CallCause, Order, Refusal, Task};
+use model::{CallCause, Order, Refusal, Task};
 use put::{digits_in, put_byte, put_digits, put_numeral};
 
 // A semicolon, then a time.
@@ -85,19 +85,19 @@ fn text_bytes(order: Order) -> usize
 }
 
 // Text from an order's bytes: its 1 to 10, then 12.
-pub fn write_text(order: &[u8], out: &mut [u8]) -> Answer
+pub fn write_text(order: &[u8], out: &mut [u8]) -> Result<u32, Refusal>
     ensures { WritesText order.now out.old result out.new }
 {
     let reading = order::read_order(order);
     let answer = reading.answer;
-    if let Answer::Refused(cause) = answer {
-        return Answer::Refused(cause);
+    if let Err(cause) = answer {
+        return Err(cause);
     }
     let read = reading.order;
     let size = text_bytes(read);
     if out.len() < size {
-        return Answer::Refused(Refusal::OfCall(CallCause::Output));
+        return Err(Refusal::OfCall(CallCause::Output));
     }
     put_lines(out, read);
-    Answer::Done(size as u32)
+    Ok(size as u32)
 }

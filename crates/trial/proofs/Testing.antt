@@ -1,4 +1,5 @@
 -- What is known of members, rank by rank, while they are tested.
+use Rattle.std.specs.Prelude.{Ok, Err}
 use mathlib.Core.Path.{◌≡◌, refl, sym, ap, ◌∙◌, subst}
 use mathlib.Core.Bool.{Bool, true, false}
 use mathlib.Core.List.{List}
@@ -11,8 +12,8 @@ use lib.Seq.{get_or-set_same, get_or-set_other}
 use Rattle.laws.specs.Every.{every}
 use Rattle.laws.proofs.Every.{clash, every_none, every_more, every_stop}
 use Rattle.model.specs.Limits.{most_tasks}
-use Rattle.demand.specs.declared.Verdict.{Verdict}
-use Rattle.demand.specs.declared.Verdict.TheVariants.{Passes, NoWindow, NoStart, TooLate}
+use Rattle.demand.specs.Verdict.{Verdict}
+use Rattle.demand.specs.declared.Failing.TheVariants.{NoWindow, NoStart, TooLate}
 use Rattle.demand.specs.Test.{does_pass, response_of}
 use Rattle.asked.specs.Rows.{asked_by, blocking_in}
 use Rattle.asked.specs.Met.{UnmetBelow}
@@ -21,11 +22,11 @@ use Rattle.verdict.specs.Tested.{TestedAs}
 use Rattle.roster.specs.Keys.{number_at}
 use Rattle.trial.specs.Known.{of_rank, Apart, Bounds, passes_at, verdict_at, OnlyRanks, TestedFrom}
 
-pub passes_is : (v : Verdict) → does_pass v ≡ true → v ≡ Passes (response_of v)
-passes_is (Passes worst) p = refl
-passes_is NoWindow p = clash p
-passes_is NoStart p = clash p
-passes_is TooLate p = clash p
+pub passes_is : (v : Verdict) → does_pass v ≡ true → v ≡ Ok (response_of v)
+passes_is (Ok worst) p = refl
+passes_is (Err NoWindow) p = clash p
+passes_is (Err NoStart) p = clash p
+passes_is (Err TooLate) p = clash p
 
 -- a number for the member of a rank written over
 module _ (keys xs : List ℕ) (r v : ℕ) where

@@ -1,4 +1,5 @@
 -- A newcomer tried: one that fails is enough; and where all are tested or stand, all is known.
+use Rattle.std.specs.Prelude.{Ok}
 use mathlib.Core.Path.{◌≡◌, refl, sym, ap, ◌∙◌, subst}
 use mathlib.Core.Bool.{Bool, true, false}
 use mathlib.Core.List.{List}
@@ -11,7 +12,6 @@ use lib.Seq.{get_or-set_other}
 use Rattle.laws.specs.Every.{every}
 use Rattle.laws.proofs.Every.{clash, every_at, every_all, every_stop}
 use Rattle.model.specs.Limits.{most_tasks}
-use Rattle.demand.specs.declared.Verdict.TheVariants.{Passes}
 use Rattle.demand.specs.Test.{does_pass, response_of}
 use Rattle.asked.specs.Rows.{RowsFit, blocking_in, whole}
 use Rattle.asked.specs.Lines.{line_in}
@@ -114,8 +114,8 @@ module _ (rows keys : List ℕ) (count newcomer : ℕ) (lasts worsts : List ℕ)
       kept_above : (h : ℕ) → h < count → ((r : ℕ) → first ≤ r → r < newcomer → r ≢ h) → of_rank keys worsts₁ h ≡ of_rank keys worsts_first h
       kept_above h l outside = rank_kept keys count first newcomer worsts_first worsts₁ known.apart (omega (arith, inside)) one.other_worsts h l outside
 
-      stand_from : (h : ℕ) → passes_at rows count h ≡ true → of_rank keys worsts₂ h ≡ response_of (verdict_at rows count h) → verdict_at rows count h ≡ Passes (of_rank keys worsts₂ h)
-      stand_from h p e = passes_is (verdict_at rows count h) p ∙ ap Passes (sym e)
+      stand_from : (h : ℕ) → passes_at rows count h ≡ true → of_rank keys worsts₂ h ≡ response_of (verdict_at rows count h) → verdict_at rows count h ≡ Ok (of_rank keys worsts₂ h)
+      stand_from h p e = passes_is (verdict_at rows count h) p ∙ ap Ok (sym e)
 
       only_all : (before after₁ after₂ : List ℕ) (v : ℕ) → OnlyRanks keys first newcomer (set before (number_at keys newcomer) v) after₁ → OnlyRanks keys (newcomer + 1) count after₁ after₂ → OnlyRanks keys 0 count before after₂
       only_all before after₁ after₂ v a b j outside =
@@ -123,35 +123,35 @@ module _ (rows keys : List ℕ) (count newcomer : ℕ) (lasts worsts : List ℕ)
           ∙ get_or-set_other before (number_at keys newcomer) j v 0 (λ e. outside newcomer (omega arith) inside (sym e))
 
       module _ (p : t.passes ≡ true) where
-        stands_first : (h : ℕ) → h < first → verdict_at rows count h ≡ Passes (of_rank keys worsts₂ h)
+        stands_first : (h : ℕ) → h < first → verdict_at rows count h ≡ Ok (of_rank keys worsts₂ h)
         stands_first h l =
             known.stands h (omega (arith, l, others.upto)) (others.shields h l)
-            ∙ ap Passes (sym (kept_below h (omega (arith, l, others.upto)) ∙ kept_above h (omega (arith, l, others.upto, inside)) (λ r f u e. omega (arith, f, e, l)) ∙ put_others keys worsts newcomer t.worst count h known.apart inside (omega (arith, l, others.upto, inside)) (λ e. omega (arith, e, l, others.upto))))
+            ∙ ap Ok (sym (kept_below h (omega (arith, l, others.upto)) ∙ kept_above h (omega (arith, l, others.upto, inside)) (λ r f u e. omega (arith, f, e, l)) ∙ put_others keys worsts newcomer t.worst count h known.apart inside (omega (arith, l, others.upto, inside)) (λ e. omega (arith, e, l, others.upto))))
 
-        stands_higher : (h : ℕ) → first ≤ h → h < newcomer → verdict_at rows count h ≡ Passes (of_rank keys worsts₂ h)
+        stands_higher : (h : ℕ) → first ≤ h → h < newcomer → verdict_at rows count h ≡ Ok (of_rank keys worsts₂ h)
         stands_higher h f l =
             let here : first + (h - first) ≡ h = omega arith in
             stand_from h (sym (ap (passes_at rows count) here) ∙ every_at (λ x. passes_at rows count (first + x)) (newcomer - first) (sym one.all_pass) (h - first) (omega (arith, f, l)))
             (kept_below h (omega (arith, l)) ∙ one.responses refl h f l)
 
-        stands_newcomer : verdict_at rows count newcomer ≡ Passes (of_rank keys worsts₂ newcomer)
+        stands_newcomer : verdict_at rows count newcomer ≡ Ok (of_rank keys worsts₂ newcomer)
         stands_newcomer =
             stand_from newcomer (sym is.passes ∙ p)
             (kept_below newcomer (omega arith) ∙ kept_above newcomer inside (λ r f u e. omega (arith, u, e)) ∙ put_own keys worsts newcomer t.worst known.places ∙ is.worst)
 
-        stands_lower : (h : ℕ) → newcomer < h → h < count → verdict_at rows count h ≡ Passes (of_rank keys worsts₂ h)
+        stands_lower : (h : ℕ) → newcomer < h → h < count → verdict_at rows count h ≡ Ok (of_rank keys worsts₂ h)
         stands_lower h f l =
             let here : newcomer + 1 + (h - (newcomer + 1)) ≡ h = omega arith in
             stand_from h (sym (ap (passes_at rows count) here) ∙ every_at (λ x. passes_at rows count (newcomer + 1 + x)) (count - (newcomer + 1)) (sym two.all_pass) (h - (newcomer + 1)) (omega (arith, f, l)))
             (two.responses refl h (omega (arith, f)) l)
 
-        stands_all : (h : ℕ) → h < count → verdict_at rows count h ≡ Passes (of_rank keys worsts₂ h)
+        stands_all : (h : ℕ) → h < count → verdict_at rows count h ≡ Ok (of_rank keys worsts₂ h)
         stands_all h l = elim (dec_lt h first) [
           | yes before ↦ stands_first h before
           | no later ↦ elim (dec_lt h newcomer) [
             | yes higher ↦ stands_higher h (omega (arith, later)) higher
             | no not_higher ↦ elim (ℕ_discrete newcomer h) [
-              | yes same ↦ subst (λ (x : ℕ). verdict_at rows count x ≡ Passes (of_rank keys worsts₂ x)) same stands_newcomer
+              | yes same ↦ subst (λ (x : ℕ). verdict_at rows count x ≡ Ok (of_rank keys worsts₂ x)) same stands_newcomer
               | no other ↦ stands_lower h (omega (arith, not_higher, other)) l
             ]
           ]

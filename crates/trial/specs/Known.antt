@@ -1,9 +1,8 @@
 -- What is known of the members of a partition while they are tested, by rank over their rows, and by number.
-use Rattle.std.specs.Prelude.{ℕ, ◌+◌, ◌-◌, ◌≤◌, ◌<◌, ◌≡◌, Bool, true, false, List, ◌≢◌, length, get_or}
+use Rattle.std.specs.Prelude.{ℕ, ◌+◌, ◌-◌, ◌≤◌, ◌<◌, ◌≡◌, Bool, true, false, List, ◌≢◌, length, get_or, Ok}
 use Rattle.laws.specs.Every.{every}
 use Rattle.model.specs.Limits.{most_tasks}
-use Rattle.demand.specs.declared.Verdict.{Verdict}
-use Rattle.demand.specs.declared.Verdict.TheVariants.{Passes}
+use Rattle.demand.specs.Verdict.{Verdict}
 use Rattle.demand.specs.Test.{does_pass, response_of}
 use Rattle.asked.specs.Rows.{cost_at, asked_by, blocking_in}
 use Rattle.asked.specs.Met.{UnmetBelow}
@@ -68,13 +67,13 @@ pub record KnownBefore (rows keys : List ℕ) (count newcomer : ℕ) (lasts wors
   pub apart : Apart keys count
   pub bounds : Bounds rows keys count lasts
   pub places : length worsts ≡ most_tasks
-  pub stands : (h : ℕ) → h < newcomer → Shielded rows count newcomer h → verdict_at rows count h ≡ Passes (of_rank keys worsts h)
+  pub stands : (h : ℕ) → h < newcomer → Shielded rows count newcomer h → verdict_at rows count h ≡ Ok (of_rank keys worsts h)
 
 -- what is known after it was: of all members where all pass, else as before
 pub record KnownAfter (rows keys : List ℕ) (count : ℕ) (lasts worsts lasts' worsts' : List ℕ) : Type 0 where
   pub bounds : Bounds rows keys count lasts'
   pub places : length worsts' ≡ most_tasks
-  pub stand : (h : ℕ) → h < count → verdict_at rows count h ≡ Passes (of_rank keys worsts' h)
+  pub stand : (h : ℕ) → h < count → verdict_at rows count h ≡ Ok (of_rank keys worsts' h)
   pub other_lasts : OnlyRanks keys 0 count lasts lasts'
   pub other_worsts : OnlyRanks keys 0 count worsts worsts'
 

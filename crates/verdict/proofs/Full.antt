@@ -1,4 +1,5 @@
 -- Where more is asked in every tick than the tick itself, no window closes; and the window as a search over one row more.
+use Rattle.std.specs.Prelude.{Some, None, Ok, Err}
 use mathlib.Core.Path.{◌≡◌, sym, ap, subst}
 use mathlib.Core.Bool.{true, false}
 use mathlib.Core.List.{List}
@@ -7,8 +8,7 @@ use native.Mathlib.Nat.{mul_comm, mul-le-mul_left, mul-add}
 use native.Mathlib.Decide.{dec_le}
 use native.Mathlib.Omega.{arith}
 use Rattle.model.specs.Limits.{horizon}
-use Rattle.search.specs.declared.Found.TheVariants.{At, Nothing}
-use Rattle.demand.specs.declared.Verdict.TheVariants.{Passes, NoWindow}
+use Rattle.demand.specs.declared.Failing.TheVariants.{NoWindow}
 use Rattle.demand.specs.Releases.{work_by}
 use Rattle.demand.specs.Test.{does_pass, response_of}
 use Rattle.demand.specs.Meaning.{NeverMet}
@@ -48,11 +48,11 @@ module _ (rows : List ℕ) (rank : ℕ) (fit : RowsFit rows (rank + 1)) (B : ℕ
         | no gt ↦ (let fuller : (s + 1) * (whole + 1) ≤ (s + 1) * slope = mul-le-mul_left (s + 1) (omega arith) in omega (arith, later, fuller, mul_comm (s + 1) whole, mul-add (s + 1) whole 1))
       ]
 
-  pub unmet_window : UnmetBelow (asked_by rows (rank + 1)) B horizon → window_of (asked_by rows rank) B (row_task rows rank) ≡ Nothing
+  pub unmet_window : UnmetBelow (asked_by rows (rank + 1)) B horizon → window_of (asked_by rows rank) B (row_task rows rank) ≡ None
   unfolding window_of
   unmet_window unmet = met_never (window_over (asked_by rows rank) B (row_task rows rank)) 1 (none_closes unmet)
 
-  no_window : UnmetBelow (asked_by rows (rank + 1)) B horizon → verdict_in rows rank B ≡ NoWindow
+  no_window : UnmetBelow (asked_by rows (rank + 1)) B horizon → verdict_in rows rank B ≡ (Err NoWindow)
   unfolding verdict_over
   no_window unmet = rw (met_never (window_over (asked_by rows rank) B (row_task rows rank)) 1 (none_closes unmet))
 
@@ -72,15 +72,15 @@ module _ (rows : List ℕ) (rank : ℕ) (fit : RowsFit rows (rank + 1)) (B : ℕ
   failed_as last fails near unmet r e =
       subst (TestedAs rows rank B) (sym e) (record { passes = sym fails.passes; worst = sym fails.worst; near = near; unmet = unmet })
 
-  pub passed_as : (worst last : ℕ) → verdict_in rows rank B ≡ Passes worst → last ≤ 2_000_000 → UnmetBelow (asked_by rows (rank + 1)) B last →
+  pub passed_as : (worst last : ℕ) → verdict_in rows rank B ≡ Ok worst → last ≤ 2_000_000 → UnmetBelow (asked_by rows (rank + 1)) B last →
       TestedAs rows rank B (record { passes = true; worst = worst; last = last })
   passed_as worst last e near unmet = record { passes = sym (ap does_pass e); worst = sym (ap response_of e); near = near; unmet = unmet }
 
   -- the window by the search
-  pub met_window : (w : ℕ) → met_by (asked_by rows (rank + 1)) B (horizon - 1) ≡ At w → window_of (asked_by rows rank) B (row_task rows rank) ≡ At (w + 1)
+  pub met_window : (w : ℕ) → met_by (asked_by rows (rank + 1)) B (horizon - 1) ≡ Some w → window_of (asked_by rows rank) B (row_task rows rank) ≡ Some (w + 1)
   unfolding window_of
   met_window w e =
-      let m = said.met_says (asked_by rows (rank + 1)) B (horizon - 1) (At w) e in
+      let m = said.met_says (asked_by rows (rank + 1)) B (horizon - 1) (Some w) e in
       met_at (window_over (asked_by rows rank) B (row_task rows rank)) 1 (w + 1)
       (record {
         from = omega arith;
@@ -90,5 +90,5 @@ module _ (rows : List ℕ) (rank : ℕ) (fit : RowsFit rows (rank + 1)) (B : ℕ
             omega (arith, m.unmet (t - 1) (omega arith), asks (t - 1), ap (window_over (asked_by rows rank) B (row_task rows rank)) same));
       })
 
-  pub met_no_window : met_by (asked_by rows (rank + 1)) B (horizon - 1) ≡ Nothing → window_of (asked_by rows rank) B (row_task rows rank) ≡ Nothing
-  met_no_window e = unmet_window (λ s l. said.met_says (asked_by rows (rank + 1)) B (horizon - 1) Nothing e s (omega arith))
+  pub met_no_window : met_by (asked_by rows (rank + 1)) B (horizon - 1) ≡ None → window_of (asked_by rows rank) B (row_task rows rank) ≡ None
+  met_no_window e = unmet_window (λ s l. said.met_says (asked_by rows (rank + 1)) B (horizon - 1) None e s (omega arith))

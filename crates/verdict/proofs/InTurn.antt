@@ -1,4 +1,5 @@
 -- A member's jobs, one after the other: what the searches' answers say of its window and of its verdict.
+use Rattle.std.specs.Prelude.{Some, None, Option, Ok, Err}
 use mathlib.Core.Path.{◌≡◌, refl, sym, ap, ◌∙◌}
 use mathlib.Core.Bool.{false}
 use mathlib.Core.Logic.{◌↔◌}
@@ -9,9 +10,7 @@ use native.Mathlib.Omega.{arith}
 use Rattle.model.specs.declared.order.Task.{Task}
 use Rattle.model.specs.Limits.{horizon, cost}
 use Rattle.model.specs.Rules.{Sized}
-use Rattle.search.specs.declared.Found.{Found}
-use Rattle.search.specs.declared.Found.TheVariants.{At, Nothing}
-use Rattle.demand.specs.declared.Verdict.TheVariants.{Passes, NoWindow, TooLate}
+use Rattle.demand.specs.declared.Failing.TheVariants.{NoWindow, TooLate}
 use Rattle.demand.specs.Releases.{work_by, jobs}
 use Rattle.demand.specs.Test.{first_met, largest_found, judged, does_pass, response_of}
 use Rattle.demand.specs.Meaning.{FirstMetAt, NeverMet}
@@ -40,7 +39,7 @@ module _ (work : ℕ → ℕ) (B : ℕ) (task : Task) where
     pub begin_late : release < horizon → release ≤ begin
     pub unmet : UnmetBelow work (base + 1) begin
     pub opened : OpenTo release
-    pub worst_is : release < horizon → largest_found (response_over work B task) q ≡ At worst
+    pub worst_is : release < horizon → largest_found (response_over work B task) q ≡ Some worst
     pub in_time_lem : worst ≤ task.deadline
 
 module _ (work : ℕ → ℕ) (grows : Grows work) (B : ℕ) (task : Task) (sized : Sized task) where
@@ -62,14 +61,14 @@ module _ (work : ℕ → ℕ) (grows : Grows work) (B : ℕ) (task : Task) (size
         in_time_lem = omega arith;
       }
 
-  pub never : NeverMet (window_over work B task) 1 → verdict_over work B task ≡ NoWindow
+  pub never : NeverMet (window_over work B task) 1 → verdict_over work B task ≡ (Err NoWindow)
   unfolding verdict_over
   never none = rw (met_never (window_over work B task) 1 none)
 
-  pub window_fails : verdict_over work B task ≡ NoWindow → Fails work B task
+  pub window_fails : verdict_over work B task ≡ (Err NoWindow) → Fails work B task
   window_fails e = record { passes = ap does_pass e; worst = ap response_of e }
 
-  pub late_fails : verdict_over work B task ≡ TooLate → Fails work B task
+  pub late_fails : verdict_over work B task ≡ (Err TooLate) → Fails work B task
   late_fails e = record { passes = ap does_pass e; worst = ap response_of e }
 
   -- open beyond the horizon: no window
@@ -77,18 +76,18 @@ module _ (work : ℕ → ℕ) (grows : Grows work) (B : ℕ) (task : Task) (size
   open_fails t past shut = window_fails (never (λ s a b. shut s a (omega arith) b))
 
   -- the verdict in a window
-  in_window : (L : ℕ) → first_met (window_over work B task) 1 ≡ At L →
+  in_window : (L : ℕ) → first_met (window_over work B task) 1 ≡ Some L →
       verdict_over work B task ≡ judged task.deadline (largest_found (response_over work B task) (jobs task L))
   unfolding verdict_over
   in_window L e = rw e
 
-  response_at : (q s : ℕ) → first_met (start_over work (job_base work B task q)) 0 ≡ At s → response_over work B task q ≡ At (s + C - q * T)
+  response_at : (q s : ℕ) → first_met (start_over work (job_base work B task q)) 0 ≡ Some s → response_over work B task q ≡ Some (s + C - q * T)
   unfolding response_over
   response_at q s e = rw e
 
   -- a job of the window that does not start in time is enough
   late_job_lem : (L q : ℕ) → FirstMetAt (window_over work B task) 1 L → q * T < L → ((s : ℕ) → s ≤ q * T + task.deadline - C → s < start_over work (job_base work B task q) s) →
-      verdict_over work B task ≡ TooLate
+      verdict_over work B task ≡ (Err TooLate)
   late_job_lem L q window inside none =
       in_window L (met_at (window_over work B task) 1 L window)
       ∙ judged_late (response_over work B task) (jobs task L) task.deadline q ((job_at q inside).at + C - q * T) (λ p k. ((job_at p ((within p).1 k)).at + C - p * T, found p ((within p).1 k)))
@@ -100,7 +99,7 @@ module _ (work : ℕ → ℕ) (grows : Grows work) (B : ℕ) (task : Task) (size
       job_at : (p : ℕ) → p * T < L → Job work grows B task sized.period_least sized.cost-least L p
       job_at p l = job work grows B task sized.period_least sized.cost-least L p window l
 
-      found : (p : ℕ) (l : p * T < L) → response_over work B task p ≡ At ((job_at p l).at + C - p * T)
+      found : (p : ℕ) (l : p * T < L) → response_over work B task p ≡ Some ((job_at p l).at + C - p * T)
       found p l = response_at p (job_at p l).at (met_at (start_over work (job_base work B task p)) 0 (job_at p l).at (job_at p l).is)
 
       past : q * T + task.deadline - C < (job_at q inside).at
@@ -139,30 +138,30 @@ module _ (work : ℕ → ℕ) (grows : Grows work) (B : ℕ) (task : Task) (size
         ]
 
     -- without a start by then, the job would be late
-    pub unstarted : met_by work (base + 1) (release + task.deadline - C) ≡ Nothing → Fails work B task
+    pub unstarted : met_by work (base + 1) (release + task.deadline - C) ≡ None → Fails work B task
     unstarted e = go (first_met (window_over work B task) 1) refl
       where
-        go : (f : Found) → first_met (window_over work B task) 1 ≡ f → Fails work B task
-        go Nothing w = window_fails (never (met_says (window_over work B task) 1 (omega arith) Nothing w))
-        go (At L) w =
-            let is = met_says (window_over work B task) 1 (omega arith) (At L) w in
+        go : (f : Option ℕ) → first_met (window_over work B task) 1 ≡ f → Fails work B task
+        go None w = window_fails (never (met_says (window_over work B task) 1 (omega arith) None w))
+        go (Some L) w =
+            let is = met_says (window_over work B task) 1 (omega arith) (Some L) w in
             let inside : release < L = elim (dec_le L release) [ yes le ↦ absurd (omega (arith, going.opened L is.from le is.upto, is.met)) | no gt ↦ omega arith ] in
-            late_fails (late_job_lem L q is (omega (arith, going.release_is)) (λ s le. unmet_start (release + task.deadline - C + 1) (said.met_says work (base + 1) (release + task.deadline - C) Nothing e) s (omega (arith, going.release_is))))
+            late_fails (late_job_lem L q is (omega (arith, going.release_is)) (λ s le. unmet_start (release + task.deadline - C + 1) (said.met_says work (base + 1) (release + task.deadline - C) None e) s (omega (arith, going.release_is))))
 
     -- nor does a window close by then
-    pub unstarted_open : met_by work (base + 1) (release + task.deadline - C) ≡ Nothing → (s : ℕ) → s < release + task.deadline - C + 1 → s + 1 < window_over work B task (s + 1)
+    pub unstarted_open : met_by work (base + 1) (release + task.deadline - C) ≡ None → (s : ℕ) → s < release + task.deadline - C + 1 → s + 1 < window_over work B task (s + 1)
     unfolding window_over
     unstarted_open e s l =
         let same : s + 1 - 1 ≡ s = omega arith in
-        let unmet = said.met_says work (base + 1) (release + task.deadline - C) Nothing e s l in
+        let unmet = said.met_says work (base + 1) (release + task.deadline - C) None e s l in
         elim (dec_le (s + 1) release) [
           | yes le ↦ going.opened (s + 1) (omega arith) le (omega arith)
           | no gt ↦ omega (arith, unmet, own_spaced s (omega arith), base_next, sized.cost-least, ap work same, ap (work_by task) same)
         ]
 
-    module _ (start : ℕ) (at-start : met_by work (base + 1) (release + task.deadline - C) ≡ At start) where
+    module _ (start : ℕ) (at-start : met_by work (base + 1) (release + task.deadline - C) ≡ Some start) where
       is : said.MetAt work (base + 1) (release + task.deadline - C) start
-      is = said.met_says work (base + 1) (release + task.deadline - C) (At start) at-start
+      is = said.met_says work (base + 1) (release + task.deadline - C) (Some start) at-start
 
       -- a job starts no earlier than its release
       pub start_late : release ≤ start
@@ -185,21 +184,21 @@ module _ (work : ℕ → ℕ) (grows : Grows work) (B : ℕ) (task : Task) (size
       pub met_end : (next : ℕ) → ((s : ℕ) → start ≤ s → s < next → work s ≡ work start) → start + C ≤ next → base + C + work (start + C - 1) ≤ start + C
       met_end next same le = omega (arith, same (start + C - 1) (omega (arith, sized.cost-least)) (omega (arith, sized.cost-least)), is.met)
 
-      response_now : start ≤ horizon → response_over work B task q ≡ At (start + C - release)
+      response_now : start ≤ horizon → response_over work B task q ≡ Some (start + C - release)
       unfolding start_over
       response_now h =
           let first : FirstMetAt (start_over work (job_base work B task q)) 0 start = record { from = omega arith; upto = h; met = omega (arith, is.met, going.base_is); earlier = λ s a l. omega (arith, is.unmet s l, going.base_is) } in
-          response_at q start (met_at (start_over work (job_base work B task q)) 0 start first) ∙ ap (λ (x : ℕ). At (start + C - x)) (sym going.release_is)
+          response_at q start (met_at (start_over work (job_base work B task q)) 0 start first) ∙ ap (λ (x : ℕ). Some (start + C - x)) (sym going.release_is)
 
-      worst_now : start ≤ horizon → largest_found (response_over work B task) (q + 1) ≡ At (max worst (start + C - release))
+      worst_now : start ≤ horizon → largest_found (response_over work B task) (q + 1) ≡ Some (max worst (start + C - release))
       worst_now h = largest_found_more (response_over work B task) q worst (start + C - release) (going.worst_is early) (response_now h)
 
       -- the window closes before the next release: the member passes
-      pub closing : (last : ℕ) → met_by work (base + C) (min horizon (release + T) - 1) ≡ At last →
-          verdict_over work B task ≡ Passes (max worst (start + C - release))
+      pub closing : (last : ℕ) → met_by work (base + C) (min horizon (release + T) - 1) ≡ Some last →
+          verdict_over work B task ≡ Ok (max worst (start + C - release))
       unfolding window_over
       closing last e =
-          let m = said.met_says work (base + C) (min horizon (release + T) - 1) (At last) e in
+          let m = said.met_says work (base + C) (min horizon (release + T) - 1) (Some last) e in
           let in-period : last < release + T = omega (arith, m.upto, sized.period_least) in
           let same : last + 1 - 1 ≡ last = omega arith in
           let met : window_over work B task (last + 1) ≤ last + 1 = omega (arith, m.met, own_few last in-period, base_next, ap work same, ap (work_by task) same) in
@@ -217,14 +216,14 @@ module _ (work : ℕ → ℕ) (grows : Grows work) (B : ℕ) (task : Task) (size
           ∙ judged_passes (response_over work B task) (q + 1) task.deadline (max worst (start + C - release)) (worst_now (omega (arith, m.upto, sized.cost-least))) most
 
       -- no window closes before that
-      pub closing_open : (last : ℕ) → met_by work (base + C) (min horizon (release + T) - 1) ≡ At last → OpenTo work B task last
-      closing_open last e = still_open last (said.met_says work (base + C) (min horizon (release + T) - 1) (At last) e).unmet
+      pub closing_open : (last : ℕ) → met_by work (base + C) (min horizon (release + T) - 1) ≡ Some last → OpenTo work B task last
+      closing_open last e = still_open last (said.met_says work (base + C) (min horizon (release + T) - 1) (Some last) e).unmet
 
       -- it does not: the next job follows
-      pub going_on_lem : met_by work (base + C) (min horizon (release + T) - 1) ≡ Nothing →
+      pub going_on_lem : met_by work (base + C) (min horizon (release + T) - 1) ≡ None →
           Going work B task (q + 1) (base + C) (release + T) (min horizon (release + T)) (max worst (start + C - release))
       going_on_lem e =
-          let unmet : UnmetBelow work (base + C) (min horizon (release + T)) = λ s l. said.met_says work (base + C) (min horizon (release + T) - 1) Nothing e s (omega arith) in
+          let unmet : UnmetBelow work (base + C) (min horizon (release + T)) = λ s l. said.met_says work (base + C) (min horizon (release + T) - 1) None e s (omega arith) in
           record {
             base_is = base_next;
             release_is = omega (arith, going.release_is, add-mul q 1 T, one-mul T);

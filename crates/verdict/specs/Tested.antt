@@ -1,9 +1,7 @@
 -- What the test of one member answers, over the rows of the higher members.
-use Rattle.std.specs.Prelude.{ℕ, ◌+◌, ◌≤◌, ◌≡◌, Bool, true, false, List}
+use Rattle.std.specs.Prelude.{ℕ, ◌+◌, ◌≤◌, ◌≡◌, Bool, true, false, List, Some, None, Option}
 use Rattle.model.specs.declared.order.Task.{Task}
-use Rattle.search.specs.declared.Found.{Found}
-use Rattle.search.specs.declared.Found.TheVariants.{At, Nothing}
-use Rattle.demand.specs.declared.Verdict.{Verdict}
+use Rattle.demand.specs.Verdict.{Verdict}
 use Rattle.demand.specs.Test.{first_met, does_pass, response_of}
 use Rattle.demand.specs.Over.{window_over, verdict_over}
 use Rattle.asked.specs.Rows.{row_task, asked_by}
@@ -21,9 +19,9 @@ pub record TestedAs (rows : List ℕ) (rank blocking : ℕ) (r : Tested) : Type 
   pub near : r.last ≤ 2_000_000
   pub unmet : UnmetBelow (asked_by rows (rank + 1)) blocking r.last
 
-abbrev pub is_there : Found → Bool
-is_there (At size) = true
-is_there Nothing = false
+abbrev pub is_there : Option ℕ → Bool
+is_there (Some size) = true
+is_there None = false
 
-unfoldable pub window_of : (work : ℕ → ℕ) → (blocking : ℕ) → Task → Found
+unfoldable pub window_of : (work : ℕ → ℕ) → (blocking : ℕ) → Task → Option ℕ
 window_of work blocking task = first_met (window_over work blocking task) 1

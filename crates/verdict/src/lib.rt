@@ -9,7 +9,6 @@ ghost use Rattle.verdict.specs.Tested.{TestedAs, window_of, is_there};
 
 use asked::{COST, DEADLINE, PERIOD, ROWS, WHOLE};
 use model::Task;
-use search::Found;
 
 // Whether the member passes; its worst response, 0 if it does not; and a tick before which its window does not close.
 #[derive(Clone, Copy)]
@@ -29,7 +28,7 @@ pub fn overfull(rows: &[u32; ROWS], count: usize, blocking: u32) -> bool
 }
 
 // Where a window closes after a job that ends so: there, if no release comes before.
-fn closing(rows: &[u32; ROWS], count: usize, base: u32, end: u32, next: u32, limit: u32) -> Found
+fn closing(rows: &[u32; ROWS], count: usize, base: u32, end: u32, next: u32, limit: u32) -> Option<u64>
     requires { RowsFit rows.now count × (base ≤ 4_000_000) × (1 ≤ end) × (end ≤ 2_000_000) × (1 ≤ limit) × (limit ≤ 1_000_000) × UnmetBelow (asked_by rows.now count) base (end - 1) × (end ≤ next → base + asked_by rows.now count (end - 1) ≤ end) }
     ensures { result ≡ met_by (asked_by rows.now count) base (limit - 1) }
 {
@@ -37,9 +36,9 @@ fn closing(rows: &[u32; ROWS], count: usize, base: u32, end: u32, next: u32, lim
         return asked::met(rows, count, model::wide(base), end - 1, limit - 1).found;
     }
     if limit < end {
-        return Found::Nothing;
+        return None;
     }
-    Found::At(model::wide(end) - 1)
+    Some(model::wide(end) - 1)
 }
 
 // Job by job: its start in time, and whether the window closes before the next release. Each search goes on from the one before it.
@@ -58,7 +57,7 @@ fn jobs(rows: &[u32; ROWS], rank: usize, blocking: u32, from: u32) -> Tested
         let due = release + deadline - cost;
         let search = asked::met(rows, rank, model::wide(base) + 1, begin, due);
         let found = search.found;
-        let Found::At(start) = found else {
+        let Some(start) = found else {
             return failed(due + 1);
         };
         let end = start as u32 + cost;
@@ -66,7 +65,7 @@ fn jobs(rows: &[u32; ROWS], rank: usize, blocking: u32, from: u32) -> Tested
         base = base + cost;
         release = release + period;
         begin = model::smaller(Task::HORIZON, release);
-        if let Found::At(last) = closing(rows, rank, base, end, search.next, begin) {
+        if let Some(last) = closing(rows, rank, base, end, search.next, begin) {
             return Tested {
                 passes: true,
                 worst,
@@ -112,7 +111,7 @@ pub fn has_window(rows: &[u32; ROWS], rank: usize, blocking: u32, from: u32) -> 
     );
     let found = search.found;
     match found {
-        Found::At(_) => true,
-        Found::Nothing => false,
+        Some(_) => true,
+        None => false,
     }
 }

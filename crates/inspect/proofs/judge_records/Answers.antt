@@ -9,18 +9,18 @@ use Rattle.inspect.proofs.judge_records.Goals as goal
 pub judge_places-placed-requires : goal.judge_places-placed-requires
 judge_places-placed-requires c = (c.requires.0.processors.1, c.requires.1.partitions, λ p l. (let fits = c.requires.1.each_place p l in (fits.0, fits.1.0)))
 
-pub returns-in-Refused : goal.returns-in-Refused
-returns-in-Refused c =
+pub returns-in-Err : goal.returns-in-Err
+returns-in-Err c =
     let a = c.args in
-    sym (places_stop a.order a.build (sym c.judge_places-placed.ensures ∙ c.in-Refused.is))
+    sym (places_stop a.order a.build (sym c.judge_places-placed.ensures ∙ c.in-Err.is))
 
 pub judge_widths-wide-requires : goal.judge_widths-wide-requires
 judge_widths-wide-requires c = (c.requires.1.partitions, c.requires.0.tasks.1)
 
-pub returns-in-Refused-wide : goal.returns-in-Refused-wide
-returns-in-Refused-wide c =
+pub returns-in-Err-wide : goal.returns-in-Err-wide
+returns-in-Err-wide c =
     let a = c.args in
-    sym (widths_stop a.order a.build (sym c.judge_places-placed.ensures ∙ c.in_default.is) (sym c.judge_widths-wide.ensures ∙ c.in-Refused-wide.is))
+    sym (widths_stop a.order a.build (sym c.judge_places-placed.ensures ∙ c.in_default.is) (sym c.judge_widths-wide.ensures ∙ c.in-Err-wide.is))
 
 pub line_up-keys-requires : goal.line_up-keys-requires
 line_up-keys-requires c =
@@ -32,10 +32,10 @@ line_up-keys-requires c =
 pub judge_ranks-ranked-requires : goal.judge_ranks-ranked-requires
 judge_ranks-ranked-requires c = (c.requires.0, c.line_up-keys.ensures)
 
-pub returns-in-Refused-ranked : goal.returns-in-Refused-ranked
-returns-in-Refused-ranked c =
+pub returns-in-Err-ranked : goal.returns-in-Err-ranked
+returns-in-Err-ranked c =
     let a = c.args in
-    sym (ranks_stop a.order a.build (sym c.judge_places-placed.ensures ∙ c.in_default.is) (sym c.judge_widths-wide.ensures ∙ c.in_default-wide.is) (sym c.judge_ranks-ranked.ensures ∙ c.in-Refused-ranked.is))
+    sym (ranks_stop a.order a.build (sym c.judge_places-placed.ensures ∙ c.in_default.is) (sym c.judge_widths-wide.ensures ∙ c.in_default-wide.is) (sym c.judge_ranks-ranked.ensures ∙ c.in-Err-ranked.is))
 
 pub judge_tests-requires : goal.judge_tests-requires
 judge_tests-requires c =

@@ -3,10 +3,10 @@ use Rattle.model.specs.Answer.{answer_number, answer_place, answer_count}
 use Rattle.jefkantu.specs.Word.{answer_word}
 use Rattle.jefkantu.proofs.answer_word.Goals as goal
 
-pub returns-in-Done : goal.returns-in-Done
+pub returns-in-Ok : goal.returns-in-Ok
 unfolding answer_word answer_number answer_place answer_count
-returns-in-Done c = rw c.in-Done.is (omega arith)
+returns-in-Ok c = rw c.in-Ok.is (omega arith)
 
-pub returns-in-Refused : goal.returns-in-Refused
+pub returns-in-Err : goal.returns-in-Err
 unfolding answer_word answer_number answer_place answer_count
-returns-in-Refused c = rw c.in-Refused.is (omega (arith, c.number.ensures, c.place.ensures))
+returns-in-Err c = rw c.in-Err.is (omega (arith, c.number.ensures, c.place.ensures))

@@ -11,7 +11,7 @@ written c =
     let reading = c.read_list-reading.result in
     let set = c.args.set.now in
     elim c.match-answer.branch [
-      | in-Done w ↦ w.set-is ∙ sym (set_done reading.answer reading.set set w.in-Done.is)
+      | in-Ok w ↦ w.set-is ∙ sym (set_done reading.answer reading.set set w.in-Ok.is)
       | in_default w ↦ w.set-is ∙ sym (set_refused reading.answer reading.set set w.in_default.is)
     ]
 

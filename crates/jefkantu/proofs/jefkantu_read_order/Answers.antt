@@ -11,7 +11,7 @@ written c =
     let reading = c.read_order-reading.result in
     let numbers = c.args.numbers.now in
     elim c.match-answer.branch [
-      | in-Done w ↦ w.numbers-is ∙ w.order_numbers-told.ensures ∙ sym (numbers_done reading.answer reading.order numbers w.in-Done.is)
+      | in-Ok w ↦ w.numbers-is ∙ w.order_numbers-told.ensures ∙ sym (numbers_done reading.answer reading.order numbers w.in-Ok.is)
       | in_default w ↦ w.numbers-is ∙ sym (numbers_refused reading.answer reading.order numbers w.in_default.is)
     ]
 

@@ -1,9 +1,9 @@
+use Rattle.std.specs.Prelude.{Some}
 use borrow.Author.Rules.{rules}
 use mathlib.Core.Path.{◌≡◌, sym, ap, ◌∙◌}
 use Prim.Native.Nat.{ℕ, ◌+◌, ◌-◌, ◌≤◌, ◌<◌}
 use native.Mathlib.Omega.{arith}
 use Rattle.model.specs.Limits.{horizon, cost}
-use Rattle.search.specs.declared.Found.TheVariants.{At}
 use Rattle.demand.proofs.Over.{Grows}
 use Rattle.asked.specs.Rows.{asked_by}
 use Rattle.asked.specs.Met.{met_by}
@@ -45,12 +45,12 @@ answer c =
     c.met-search.ensures.0 ∙ ap (λ (x : ℕ). met_by (work c.before.before.before.before.before.before) (x + 1) (c.loop-release.release + c.args.task.deadline - c.cost.result)) c.wide.ensures
     ∙ ap (λ (x : ℕ). met_by (work c.before.before.before.before.before.before) (c.loop-release.base + 1) (c.loop-release.release + c.args.task.deadline - x)) c.cost.ensures
 
-at-start : (c : tie.In-At invariant-loop-release decreases-loop-release) → met_by (work c.before.before.before.before.before.before.before) (c.loop-release.base + 1) (c.loop-release.release + c.args.task.deadline - cost c.args.task) ≡ At c.in-At.start
-at-start c = sym (answer c.before) ∙ c.in-At.is
+at-start : (c : tie.In-Some invariant-loop-release decreases-loop-release) → met_by (work c.before.before.before.before.before.before.before) (c.loop-release.base + 1) (c.loop-release.release + c.args.task.deadline - cost c.args.task) ≡ Some c.in-Some.start
+at-start c = sym (answer c.before) ∙ c.in-Some.is
 
-started : (c : tie.In-At invariant-loop-release decreases-loop-release) → c.in-At.start ≤ 1_000_000
+started : (c : tie.In-Some invariant-loop-release decreases-loop-release) → c.in-Some.start ≤ 1_000_000
 started c =
-    start_small (work c.before.before.before.before.before.before.before) c.args.blocking c.args.task c.loop-release.number c.loop-release.base c.loop-release.release c.loop-release.from c.loop-release.invariant c.requires.2 c.requires.3 (grows c.before.before.before.before.before.before.before) c.in-At.start (at-start c)
+    start_small (work c.before.before.before.before.before.before.before) c.args.blocking c.args.task c.loop-release.number c.loop-release.base c.loop-release.release c.loop-release.from c.loop-release.invariant c.requires.2 c.requires.3 (grows c.before.before.before.before.before.before.before) c.in-Some.start (at-start c)
 
 loop-release-init : tie.Need-loop-release-init invariant-loop-release decreases-loop-release
 loop-release-init c = none_yet (work c) c.args.blocking c.args.task
@@ -132,7 +132,7 @@ loop-release-smaller c =
 loop-release-preserved : tie.Need-loop-release-preserved invariant-loop-release decreases-loop-release
 loop-release-preserved c =
     rw (c.cost-base.ensures, c.cost-in-loop-release.ensures)
-    (one_more (work c.before.before.before.before.before.before.before.before.before.before) c.args.blocking c.args.task c.loop-release.number c.loop-release.base c.loop-release.release c.loop-release.from c.loop-release.invariant c.requires.2 c.requires.3 (grows c.before.before.before.before.before.before.before.before.before.before) c.in-At.start (at-start c.before.before.before))
+    (one_more (work c.before.before.before.before.before.before.before.before.before.before) c.args.blocking c.args.task c.loop-release.number c.loop-release.base c.loop-release.release c.loop-release.from c.loop-release.invariant c.requires.2 c.requires.3 (grows c.before.before.before.before.before.before.before.before.before.before) c.in-Some.start (at-start c.before.before.before))
 
 returns : tie.Need-returns invariant-loop-release decreases-loop-release
 returns c = absurd (omega (arith, small c.before, c.loop-release-test.false))

@@ -7,13 +7,13 @@ use Rattle.list.specs.Taken.{TakesItem}
 use Rattle.list.proofs.Taken.{dash_inside, dash_told, item_refused, alone_taken, range_taken}
 use Rattle.list.proofs.take_item.Goals as goal
 
-pub returns-in-Refused : goal.returns-in-Refused
-returns-in-Refused c =
+pub returns-in-Err : goal.returns-in-Err
+returns-in-Err c =
     let a = c.args in
     let digits = c.take_digits-digits in
     subst (TakesItem (drop a.at a.text.now) a.at) (sym c.refused_item.ensures)
     (item_refused a.text.now a.at digits.result.value digits.result.next digits.ensures.0 digits.ensures.1 _
-    (sym c.number_answer-answer.ensures ∙ c.in-Refused.is))
+    (sym c.number_answer-answer.ensures ∙ c.in-Err.is))
 
 pub overflow_add-next : goal.overflow_add-next
 overflow_add-next c =

@@ -1,8 +1,8 @@
+use Rattle.std.specs.Prelude.{Ok}
 use mathlib.Core.Path.{sym, ap, ◌∙◌, subst}
 use Prim.Native.Nat.{ℕ, ◌+◌}
 use native.Mathlib.Omega.{arith}
-use Rattle.model.specs.declared.answer.Answer.{Answer}
-use Rattle.model.specs.declared.answer.Answer.TheVariants.{Done}
+use Rattle.model.specs.Kinds.{Answer}
 use Rattle.sets.specs.Sets.{union}
 use Rattle.list.specs.Read.{reading_by}
 use Rattle.list.proofs.Items.{ItemsLeft, all_set, all_left, items_stop, items_more, taken_span}
@@ -14,10 +14,10 @@ loop-at-init c = all_left c.args.text.now
 pub take_item-item-requires : goal.take_item-item-requires
 take_item-item-requires c = (c.loop-at-test.true, c.requires)
 
-pub returns-in-Refused : goal.returns-in-Refused
-returns-in-Refused c =
+pub returns-in-Err : goal.returns-in-Err
+returns-in-Err c =
     let text = c.args.text.now in
-    sym (ap (λ (answer : Answer). reading_by answer (all_set text)) (items_stop text c.loop-at.at c.loop-at.set c.loop-at.invariant c.loop-at-test.true c.take_item-item.result c.take_item-item.ensures _ c.in-Refused.is))
+    sym (ap (λ (answer : Answer). reading_by answer (all_set text)) (items_stop text c.loop-at.at c.loop-at.set c.loop-at.invariant c.loop-at-test.true c.take_item-item.result c.take_item-item.ensures _ c.in-Err.is))
 
 pub overflow_add-item : goal.overflow_add-item
 overflow_add-item c =
@@ -58,4 +58,4 @@ pub returns : goal.returns
 returns c =
     let text = c.args.text.now in
     let over = c.loop-at.invariant in
-    sym (ap (λ (answer : Answer). reading_by answer (all_set text)) (over.answer_over c.loop-at-test.false) ∙ ap (λ (set : ℕ). reading_by (Done 0) set) (over.set_over c.loop-at-test.false))
+    sym (ap (λ (answer : Answer). reading_by answer (all_set text)) (over.answer_over c.loop-at-test.false) ∙ ap (λ (set : ℕ). reading_by (Ok 0) set) (over.set_over c.loop-at-test.false))

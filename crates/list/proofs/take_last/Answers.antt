@@ -6,12 +6,12 @@ use Rattle.list.specs.Taken.{TakesLast}
 use Rattle.list.proofs.Taken.{last_refused, last_below, last_taken}
 use Rattle.list.proofs.take_last.Goals as goal
 
-pub returns-in-Refused : goal.returns-in-Refused
-returns-in-Refused c =
+pub returns-in-Err : goal.returns-in-Err
+returns-in-Err c =
     let a = c.args in
     let digits = c.take_digits-digits in
     subst (TakesLast a.first (drop a.at a.text.now) a.at) (sym c.refused_item.ensures)
-    (last_refused a.text.now a.at a.first digits.result.value digits.result.next digits.ensures.0 digits.ensures.1 _ (sym c.number_answer-answer.ensures ∙ c.in-Refused.is))
+    (last_refused a.text.now a.at a.first digits.result.value digits.result.next digits.ensures.0 digits.ensures.1 _ (sym c.number_answer-answer.ensures ∙ c.in-Err.is))
 
 pub returns-then-last-first : goal.returns-then-last-first
 returns-then-last-first c =

@@ -1,8 +1,8 @@
+use Rattle.std.specs.Prelude.{Ok}
 use mathlib.Core.Path.{sym, ap, ◌∙◌}
 use Prim.Native.Nat.{ℕ}
 use native.Mathlib.Omega.{arith}
 use lib.ListN.{length}
-use Rattle.model.specs.declared.answer.Answer.TheVariants.{Done}
 use Rattle.model.specs.Answer.{output_after}
 use Rattle.model.proofs.Output.{after_done, after_refused}
 use Rattle.list_form.specs.ListText.{list_text}
@@ -26,6 +26,6 @@ returns c =
     let size = c.list_bytes-size.ensures.0 in
     let text = list_text a.set in
     record {
-      answered = ap Done size ∙ sym (list_done a.set (length a.out.now) (rw size at c.if-out-size.false));
-      written = c.put_list.ensures ∙ sym (after_done (length text) text a.out.now) ∙ ap (λ (n : ℕ). output_after (Done n) text a.out.now) (sym size);
+      answered = ap Ok size ∙ sym (list_done a.set (length a.out.now) (rw size at c.if-out-size.false));
+      written = c.put_list.ensures ∙ sym (after_done (length text) text a.out.now) ∙ ap (λ (n : ℕ). output_after (Ok n) text a.out.now) (sym size);
     }

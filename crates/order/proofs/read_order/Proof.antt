@@ -1,3 +1,4 @@
+use Rattle.std.specs.Prelude.{Ok}
 use borrow.Author.Rules.{rules}
 use Prim.Native.Nat.{ℕ, ◌≤◌}
 use mathlib.Core.Path.{◌≡◌, sym, ap, ◌∙◌}
@@ -7,8 +8,7 @@ use lib.ListN.{length}
 use Rattle.laws.specs.Joined.{filled}
 use Rattle.model.specs.declared.order.Task.{Task}
 use Rattle.model.specs.declared.order.Order.{Order}
-use Rattle.model.specs.declared.answer.Answer.{Answer}
-use Rattle.model.specs.declared.answer.Answer.TheVariants.{Done}
+use Rattle.model.specs.Kinds.{Answer}
 use Rattle.model.specs.Limits.{most_tasks, zero_task}
 use Rattle.model.specs.Rules.{first_broken, range_rules}
 use Rattle.model.proofs.Rules.{done_pass}
@@ -32,7 +32,7 @@ header_same w = w.read_header-header.ensures
 found : (w : tie.After-judge_header-layout) → first_broken 0 (header_rules (length (S w)) (header_of (S w))) ≡ w.judge_header-layout.result
 found w = ap (λ (h : Header). first_broken 0 (header_rules (length (S w)) h)) (sym (header_same w)) ∙ sym w.judge_header-layout.ensures
 
-tasks-few : (w : tie.After-judge_header-layout) {count : ℕ} → w.judge_header-layout.result ≡ Done count → (header w).tasks ≤ most_tasks
+tasks-few : (w : tie.After-judge_header-layout) {count : ℕ} → w.judge_header-layout.result ≡ Ok count → (header w).tasks ≤ most_tasks
 tasks-few w e =
     let sound = header_sound (length (S w)) (header_of (S w)) (done_pass 0 (header_rules (length (S w)) (header_of (S w))) (found w ∙ e)) in
     omega (arith, sound.tasks.1, ap (λ (h : Header). h.tasks) (header_same w))
@@ -76,9 +76,9 @@ enum_known-layout c = search rules
 refused-requires : tie.Need-refused-requires
 refused-requires c κs = search rules
 
-returns-in-Refused : tie.Need-returns-in-Refused
-returns-in-Refused c =
-    c.refused.ensures ∙ read_stop (S c.before.before) (layout_stop (S c.before.before) (found c.before.before ∙ c.in-Refused.is))
+returns-in-Err : tie.Need-returns-in-Err
+returns-in-Err c =
+    c.refused.ensures ∙ read_stop (S c.before.before) (layout_stop (S c.before.before) (found c.before.before ∙ c.in-Err.is))
 
 enum_told-1 : tie.Need-enum_told-1
 enum_told-1 c = search rules
@@ -92,12 +92,12 @@ read_table-records-requires c κs = tasks-few c.before.before c.in_default.is
 enum_known-spares : tie.Need-enum_known-spares
 enum_known-spares c = search rules
 
-refused-requires-in-Refused-spares : tie.Need-refused-requires-in-Refused-spares
-refused-requires-in-Refused-spares c κs = search rules
+refused-requires-in-Err-spares : tie.Need-refused-requires-in-Err-spares
+refused-requires-in-Err-spares c κs = search rules
 
-returns-in-Refused-spares : tie.Need-returns-in-Refused-spares
-returns-in-Refused-spares c =
-    c.refused-in-Refused-spares.ensures ∙ read_stop (S (judged c.before.before)) (layout c.before.before ∙ c.in-Refused-spares.is)
+returns-in-Err-spares : tie.Need-returns-in-Err-spares
+returns-in-Err-spares c =
+    c.refused-in-Err-spares.ensures ∙ read_stop (S (judged c.before.before)) (layout c.before.before ∙ c.in-Err-spares.is)
 
 enum_told-in_default-spares : tie.Need-enum_told-in_default-spares
 enum_told-in_default-spares c = search rules
@@ -109,19 +109,19 @@ judge-judged-requires c κs =
 enum_known-judged : tie.Need-enum_known-judged
 enum_known-judged c = search rules
 
-refused-requires-in-Refused-judged : tie.Need-refused-requires-in-Refused-judged
-refused-requires-in-Refused-judged c κs = search rules
+refused-requires-in-Err-judged : tie.Need-refused-requires-in-Err-judged
+refused-requires-in-Err-judged c κs = search rules
 
-enum_told-in-Done : tie.Need-enum_told-in-Done
-enum_told-in-Done c = search rules
+enum_told-in-Ok : tie.Need-enum_told-in-Ok
+enum_told-in-Ok c = search rules
 
-returns-in-Refused-judged : tie.Need-returns-in-Refused-judged
-returns-in-Refused-judged c =
-    c.refused-in-Refused-judged.ensures ∙ read_range (S (judged c.before.before.before.before.before)) (layout c.before.before.before.before.before ∙ c.in_default-spares.is) (sym (ranges-same c.before.before) ∙ c.in-Refused-judged.is)
+returns-in-Err-judged : tie.Need-returns-in-Err-judged
+returns-in-Err-judged c =
+    c.refused-in-Err-judged.ensures ∙ read_range (S (judged c.before.before.before.before.before)) (layout c.before.before.before.before.before ∙ c.in_default-spares.is) (sym (ranges-same c.before.before) ∙ c.in-Err-judged.is)
 
-returns-in-Done : tie.Need-returns-in-Done
-returns-in-Done c =
-    ap (λ (o : Order). record { answer = Done 0; order = o }) (read_same c.before.before) ∙ read_done (S (judged c.before.before.before.before)) (layout c.before.before.before.before ∙ c.in_default-spares.is) (sym (ranges-same c.before) ∙ c.in-Done.is)
+returns-in-Ok : tie.Need-returns-in-Ok
+returns-in-Ok c =
+    ap (λ (o : Order). record { answer = Ok 0; order = o }) (read_same c.before.before) ∙ read_done (S (judged c.before.before.before.before)) (layout c.before.before.before.before ∙ c.in_default-spares.is) (sym (ranges-same c.before) ∙ c.in-Ok.is)
 
 pub read_order_spec : {M : Type 1} → statement M
-read_order_spec = tie.close (tie.spec read_header-header-requires judge_header-layout-requires enum_known-layout refused-requires returns-in-Refused enum_told-1 overflow_cast-header read_table-records-requires enum_known-spares refused-requires-in-Refused-spares returns-in-Refused-spares enum_told-in_default-spares judge-judged-requires enum_known-judged refused-requires-in-Refused-judged enum_told-in-Done returns-in-Refused-judged returns-in-Done)
+read_order_spec = tie.close (tie.spec read_header-header-requires judge_header-layout-requires enum_known-layout refused-requires returns-in-Err enum_told-1 overflow_cast-header read_table-records-requires enum_known-spares refused-requires-in-Err-spares returns-in-Err-spares enum_told-in_default-spares judge-judged-requires enum_known-judged refused-requires-in-Err-judged enum_told-in-Ok returns-in-Err-judged returns-in-Ok)

@@ -32,13 +32,13 @@ judge-judged-requires c =
     let tasks-in = sym c.within-2.ensures ∙ c.if-not-within-2.false in
     (within_true 1 most_tasks _ tasks-in).1
 
-pub returns-in-Refused : goal.returns-in-Refused
-returns-in-Refused c =
+pub returns-in-Err : goal.returns-in-Err
+returns-in-Err c =
     let a = c.args in
     let processors-in = sym c.within.ensures ∙ c.if-not-within.false in
     let tasks-in = sym c.within-2.ensures ∙ c.if-not-within-2.false in
     record {
-      answered = sym (written_stop a.order (length a.out.now) processors-in tasks-in (sym c.judge-judged.ensures ∙ c.in-Refused.is));
+      answered = sym (written_stop a.order (length a.out.now) processors-in tasks-in (sym c.judge-judged.ensures ∙ c.in-Err.is));
       written = sym (after_refused _ _ a.out.now);
     }
 

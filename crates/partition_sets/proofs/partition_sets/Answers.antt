@@ -2,11 +2,11 @@ use Rattle.inspect.proofs.Handed.{handed_accepted}
 use Rattle.partition_sets.proofs.Given.{partitions_fit, given_not, no_room, given}
 use Rattle.partition_sets.proofs.partition_sets.Goals as goal
 
-pub returns-in-Refused : goal.returns-in-Refused
-returns-in-Refused c =
+pub returns-in-Err : goal.returns-in-Err
+returns-in-Err c =
     let a = c.args in
     let checked = c.check_both-checked in
-    given_not a.order.now a.build.now a.out.now checked.result checked.ensures _ c.in-Refused.is
+    given_not a.order.now a.build.now a.out.now checked.result checked.ensures _ c.in-Err.is
 
 pub returns-then-out-partitions : goal.returns-then-out-partitions
 returns-then-out-partitions c =

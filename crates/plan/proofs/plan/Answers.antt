@@ -1,9 +1,9 @@
+use Rattle.std.specs.Prelude.{Ok}
 use Prim.Native.Nat.{ℕ}
 use mathlib.Core.Path.{◌≡◌, sym, ap, ◌∙◌, subst}
 use mathlib.Core.List.{List}
 use lib.ListN.{length}
 use Rattle.model.specs.declared.answer.Reading.{Reading}
-use Rattle.model.specs.declared.answer.Answer.TheVariants.{Done}
 use Rattle.model.specs.Answer.{output_after}
 use Rattle.model.specs.Rules.{first_broken, room_rules, WithinLimits}
 use Rattle.model.proofs.Rules.{AllPass}
@@ -19,24 +19,24 @@ use Rattle.fit.proofs.Fields.{fitted_fits_fields}
 use Rattle.plan.proofs.plan.Goals as goal
 
 -- the order that was read, where it is accepted
-read_done : (s : List ℕ) (w : Reading) → w ≡ read_order s → {count : ℕ} → w.answer ≡ Done count → (read_order s).answer ≡ Done count
+read_done : (s : List ℕ) (w : Reading) → w ≡ read_order s → {count : ℕ} → w.answer ≡ Ok count → (read_order s).answer ≡ Ok count
 read_done s w is e = ap (λ (r : Reading). r.answer) (sym is) ∙ e
 
-order_same : (s : List ℕ) (w : Reading) → w ≡ read_order s → {count : ℕ} → w.answer ≡ Done count → w.order ≡ order_at s
+order_same : (s : List ℕ) (w : Reading) → w ≡ read_order s → {count : ℕ} → w.answer ≡ Ok count → w.order ≡ order_at s
 order_same s w is e = ap (λ (r : Reading). r.order) is ∙ read_order_lem s (read_done s w is e)
 
-rules : (s : List ℕ) (w : Reading) → w ≡ read_order s → {count : ℕ} → w.answer ≡ Done count → AllPass (order_rules s)
+rules : (s : List ℕ) (w : Reading) → w ≡ read_order s → {count : ℕ} → w.answer ≡ Ok count → AllPass (order_rules s)
 rules s w is e = read_rules s (read_done s w is e)
 
 -- what first fit gave it
-fitted-same : (s : List ℕ) (w : Reading) → w ≡ read_order s → {count : ℕ} → w.answer ≡ Done count → (f : Fitted) → f ≡ fitted_of w.order → f ≡ fitted_of (order_at s)
+fitted-same : (s : List ℕ) (w : Reading) → w ≡ read_order s → {count : ℕ} → w.answer ≡ Ok count → (f : Fitted) → f ≡ fitted_of w.order → f ≡ fitted_of (order_at s)
 fitted-same s w is e f fits = fits ∙ ap fitted_of (order_same s w is e)
 
-pub returns-in-Refused : goal.returns-in-Refused
-returns-in-Refused c =
+pub returns-in-Err : goal.returns-in-Err
+returns-in-Err c =
     let s = c.args.order.now in
     let out = c.args.out.now in
-    let refused = sym (read_answer s) ∙ (ap (λ (r : Reading). r.answer) (sym c.read_order-reading.ensures) ∙ c.in-Refused.is) in
+    let refused = sym (read_answer s) ∙ (ap (λ (r : Reading). r.answer) (sym c.read_order-reading.ensures) ∙ c.in-Err.is) in
     record { answered = sym (plan_order s (length out) refused); written = sym (after_refused _ _ out) }
 
 pub first_fit-fitted-requires : goal.first_fit-fitted-requires
@@ -46,13 +46,13 @@ first_fit-fitted-requires c =
     let e = c.in_default.is in
     subst WithinLimits (sym (order_same s read.result read.ensures e)) (within_limits s (rules s read.result read.ensures e))
 
-pub returns-in-Refused-placed : goal.returns-in-Refused-placed
-returns-in-Refused-placed c =
+pub returns-in-Err-placed : goal.returns-in-Err-placed
+returns-in-Err-placed c =
     let s = c.args.order.now in
     let read = c.read_order-reading in
     let out = c.args.out.now in
     let same = fitted-same s read.result read.ensures c.in_default.is c.first_fit-fitted.result c.first_fit-fitted.ensures in
-    let refused = ap (λ (x : Fitted). x.answer) (sym same) ∙ c.in-Refused-placed.is in
+    let refused = ap (λ (x : Fitted). x.answer) (sym same) ∙ c.in-Err-placed.is in
     record {
       answered = sym (plan_fitted s (length out) (rules s read.result read.ensures c.in_default.is) ∙ fit_stop _ _ (fitted_of (order_at s)) (length out) refused);
       written = sym (after_refused _ _ out);

@@ -1,7 +1,7 @@
+use Rattle.std.specs.Prelude.{Ok}
 use mathlib.Core.Path.{sym, ap, ◌∙◌}
 use native.Mathlib.Omega.{arith}
 use lib.ListN.{length}
-use Rattle.model.specs.declared.answer.Answer.TheVariants.{Done}
 use Rattle.model.specs.declared.answer.Refusal.TheVariants.{OfCall}
 use Rattle.model.specs.declared.answer.CallCause.TheVariants.{Output}
 use Rattle.model.proofs.Output.{after_done, after_refused}
@@ -30,6 +30,6 @@ returns c =
     let a = c.args in
     let size = c.bytes-size.ensures in
     record {
-      answered = ap Done size ∙ sym (room_on _ _ (length a.out.now) (rw size at c.if-out-size.false));
+      answered = ap Ok size ∙ sym (room_on _ _ (length a.out.now) (rw size at c.if-out-size.false));
       written = c.write_build.ensures ∙ rw size (sym (after_done _ (build_bytes a.build) a.out.now));
     }

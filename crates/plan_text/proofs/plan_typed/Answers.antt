@@ -8,9 +8,9 @@ use Rattle.plan_text.proofs.plan_typed.Goals as goal
 pub slice_bounds-order-end : goal.slice_bounds-order-end
 slice_bounds-order-end g c =
     let read = c.read_text-answer in
-    omega (arith, read_room _ _ _ _ (sym read.ensures.answered ∙ c.in-Done.is), read.auto.out)
+    omega (arith, read_room _ _ _ _ (sym read.ensures.answered ∙ c.in-Ok.is), read.auto.out)
 
 pub slice_bounds-show_plan-end : goal.slice_bounds-show_plan-end
 slice_bounds-show_plan-end g c =
     let read = c.read_text-answer in
-    sym (length-take-le _ _ (omega (arith, read_room _ _ _ _ (sym read.ensures.answered ∙ c.in-Done.is), read.auto.out)))
+    sym (length-take-le _ _ (omega (arith, read_room _ _ _ _ (sym read.ensures.answered ∙ c.in-Ok.is), read.auto.out)))

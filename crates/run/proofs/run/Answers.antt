@@ -15,8 +15,8 @@ records_are : (s : List ℕ) → length s / 6 ≡ records_in s
 unfolding records_in
 records_are s = refl
 
-pub returns-in-Refused : goal.returns-in-Refused
-returns-in-Refused c = ran_not c.args.order.now c.args.build.now c.args.script.now c.args.out.now c.check_both-checked.result c.check_both-checked.ensures c.in-Refused.is
+pub returns-in-Err : goal.returns-in-Err
+returns-in-Err c = ran_not c.args.order.now c.args.build.now c.args.script.now c.args.out.now c.check_both-checked.result c.check_both-checked.ensures c.in-Err.is
 
 pub slice_bounds-run_checked-end-then-records-out : goal.slice_bounds-run_checked-end-then-records-out
 slice_bounds-run_checked-end-then-records-out c = sym (length-take-le _ c.args.out.now (omega (arith, c.if-records-out.true)))

@@ -8,17 +8,17 @@ judge_script-judged-requires c = (c.requires.limits, refl, refl)
 pub run_all-requires : goal.run_all-requires
 run_all-requires c =
     let a = c.args in
-    runnable a.order a.build a.script.now a.out.now _ _ c.judge_script-judged.ensures c.requires c.in-Done.is
+    runnable a.order a.build a.script.now a.out.now _ _ c.judge_script-judged.ensures c.requires c.in-Ok.is
 
-pub returns-in-Refused : goal.returns-in-Refused
-returns-in-Refused c =
+pub returns-in-Err : goal.returns-in-Err
+returns-in-Err c =
     let a = c.args in
-    ran_none a.order a.build a.script.now a.out.now _ _ c.judge_script-judged.ensures c.in-Refused.is
+    ran_none a.order a.build a.script.now a.out.now _ _ c.judge_script-judged.ensures c.in-Err.is
 
-pub returns-in-Done : goal.returns-in-Done
-returns-in-Done c =
+pub returns-in-Ok : goal.returns-in-Ok
+returns-in-Ok c =
     let a = c.args in
     let judged = c.judge_script-judged.ensures in
-    let done = c.in-Done.is in
+    let done = c.in-Ok.is in
     ran_all a.order a.build a.script.now a.out.now _ _ judged c.requires done
     (c.run_all.ensures (runnable a.order a.build a.script.now a.out.now _ _ judged c.requires done))

@@ -15,8 +15,8 @@ use Rattle.script.proofs.judge_records.Goals as goal
 pub loop-i-init : goal.loop-i-init
 loop-i-init c = (search rules, λ processors. judged_none _ _ _ _ c.requires.3 c.requires.4)
 
-pub returns-in-Refused : goal.returns-in-Refused
-returns-in-Refused c =
+pub returns-in-Err : goal.returns-in-Err
+returns-in-Err c =
     let a = c.args in
     let l = c.loop-i in
     let s = a.script.now in
@@ -26,7 +26,7 @@ returns-in-Refused c =
     let judged = c.judge_release-judged.ensures a.order s
     (judged_told a.order s l.i l.earliest l.least l.keys l.durations (l.invariant.1 a.order.processors) taken.result taken.ensures) in
     record {
-      answers = sym (scan_stop rules a.records a.records l.i _ c.loop-i-test.true (l.invariant.1 a.order.processors).passes (any_count 0 a.records (rules l.i) _ (sym judged ∙ c.in-Refused.is)));
+      answers = sym (scan_stop rules a.records a.records l.i _ c.loop-i-test.true (l.invariant.1 a.order.processors).passes (any_count 0 a.records (rules l.i) _ (sym judged ∙ c.in-Err.is)));
       holds = λ count e. never e;
     }
 

@@ -16,13 +16,13 @@ returns-then-lines-gt-MOST_TASKS c =
       written = sym (after_refused _ _ a.out.now);
     }
 
-pub returns-in-Refused : goal.returns-in-Refused
-returns-in-Refused c =
+pub returns-in-Err : goal.returns-in-Err
+returns-in-Err c =
     let a = c.args in
     let counted = c.count_lines-lines.ensures in
     let taken = subst (λ (n : ℕ). TakesLines a.text.now n c.take_lines-taken.result) counted c.take_lines-taken.ensures in
     record {
-      answered = sym (text_stops a.processors a.text.now (length a.out.now) (subst (λ (n : ℕ). n ≤ most_tasks) counted c.if-lines-gt-MOST_TASKS.false) _ (sym taken.answered ∙ c.in-Refused.is));
+      answered = sym (text_stops a.processors a.text.now (length a.out.now) (subst (λ (n : ℕ). n ≤ most_tasks) counted c.if-lines-gt-MOST_TASKS.false) _ (sym taken.answered ∙ c.in-Err.is));
       written = sym (after_refused _ _ a.out.now);
     }
 

@@ -1,3 +1,4 @@
+use Rattle.std.specs.Prelude.{Ok}
 use Prim.Native.Nat.{ℕ, ◌≤◌}
 use mathlib.Core.Path.{◌≡◌, sym, ap, ◌∙◌, subst}
 use mathlib.Core.List.{List, ◌++◌}
@@ -5,7 +6,6 @@ use native.Mathlib.Omega.{arith}
 use lib.ListN.{length, drop}
 use Rattle.model.specs.declared.order.Order.{Order}
 use Rattle.model.specs.declared.answer.Reading.{Reading}
-use Rattle.model.specs.declared.answer.Answer.TheVariants.{Done}
 use Rattle.model.specs.Answer.{output_after}
 use Rattle.model.specs.Limits.{most_tasks}
 use Rattle.model.proofs.Rules.{AllPass}
@@ -18,8 +18,8 @@ use Rattle.text_out.proofs.Rules.{text_refused, text_short, text_done}
 use Rattle.text_out.proofs.write_text.Goals as goal
 
 -- the room, the rules passed, and the order, where it is accepted
-module _ (S : List ℕ) (reading : Reading) (is_read : reading ≡ read_order S) {count : ℕ} (done : reading.answer ≡ Done count) where
-  accepted : (read_order S).answer ≡ Done count
+module _ (S : List ℕ) (reading : Reading) (is_read : reading ≡ read_order S) {count : ℕ} (done : reading.answer ≡ Ok count) where
+  accepted : (read_order S).answer ≡ Ok count
   accepted = ap (λ (r : Reading). r.answer) (sym is_read) ∙ done
 
   passed : AllPass (order_rules S)
@@ -38,11 +38,11 @@ module _ (S : List ℕ) (reading : Reading) (is_read : reading ≡ read_order S)
   size_same : {size : ℕ} → size ≡ length (order_text reading.order) → size ≡ length (text_of S)
   size_same counted = counted ∙ ap length text_same
 
-pub returns-in-Refused : goal.returns-in-Refused
-returns-in-Refused c =
+pub returns-in-Err : goal.returns-in-Err
+returns-in-Err c =
     let S = c.args.order.now in
     let out = c.args.out.now in
-    let refused = sym (read_answer S) ∙ (ap (λ (r : Reading). r.answer) (sym c.read_order-reading.ensures) ∙ c.in-Refused.is) in
+    let refused = sym (read_answer S) ∙ (ap (λ (r : Reading). r.answer) (sym c.read_order-reading.ensures) ∙ c.in-Err.is) in
     record { answered = sym (text_refused S (length out) refused); written = sym (after_refused _ _ out) }
 
 pub text_bytes-size-requires : goal.text_bytes-size-requires
@@ -71,6 +71,6 @@ returns c =
     let text = text_of S in
     let same = size_same S read.result read.ensures c.in_default.is c.text_bytes-size.ensures.0 in
     record {
-      answered = ap Done same ∙ sym (text_done S (length out) (passed S read.result read.ensures c.in_default.is) (rw same at c.if-out-size.false));
-      written = c.put_lines.ensures ∙ ap (λ (x : List ℕ). x ++ drop (length x) out) (text_same S read.result read.ensures c.in_default.is) ∙ sym (after_done (length text) text out) ∙ ap (λ (n : ℕ). output_after (Done n) text out) (sym same);
+      answered = ap Ok same ∙ sym (text_done S (length out) (passed S read.result read.ensures c.in_default.is) (rw same at c.if-out-size.false));
+      written = c.put_lines.ensures ∙ ap (λ (x : List ℕ). x ++ drop (length x) out) (text_same S read.result read.ensures c.in_default.is) ∙ sym (after_done (length text) text out) ∙ ap (λ (n : ℕ). output_after (Ok n) text out) (sym same);
     }

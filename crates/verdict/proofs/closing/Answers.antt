@@ -1,7 +1,7 @@
+use Rattle.std.specs.Prelude.{Some}
 use native.Mathlib.Omega.{arith}
 use mathlib.Core.Path.{sym, ap, ◌∙◌}
 use Prim.Native.Nat.{ℕ, ◌-◌}
-use Rattle.search.specs.declared.Found.TheVariants.{At}
 use Rattle.asked.specs.Rows.{asked_by}
 use Rattle.asked.specs.Met.{met_by}
 use Rattle.asked.proofs.Seeking.{met_here, met_nowhere}
@@ -24,5 +24,5 @@ returns-then-limit-end c =
 pub returns : goal.returns
 returns c =
     let a = c.args in
-    ap (λ (x : ℕ). At (x - 1)) c.wide-2.ensures
+    ap (λ (x : ℕ). Some (x - 1)) c.wide-2.ensures
     ∙ sym (met_here (asked_by a.rows.now a.count) a.base (a.limit - 1) (a.end - 1) (omega (arith, c.if-limit-end.false)) c.requires.6 (omega (arith, c.requires.7 c.if-next-end.false, c.requires.2)))

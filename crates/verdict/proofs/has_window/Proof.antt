@@ -29,18 +29,18 @@ answer c = (let a = c.args in c.met-search.ensures.0 ∙ ap (λ (x : ℕ). met_b
 enum_told-1 : tie.Need-enum_told-1
 enum_told-1 c = search rules
 
-enum_told-in-Nothing : tie.Need-enum_told-in-Nothing
-enum_told-in-Nothing c = search rules
+enum_told-in-None : tie.Need-enum_told-in-None
+enum_told-in-None c = search rules
 
-returns-in-At : tie.Need-returns-in-At
-returns-in-At c =
+returns-in-Some : tie.Need-returns-in-Some
+returns-in-Some c =
     let a = c.args in
-    sym (ap is_there (met_window a.rows.now a.rank c.requires.0 a.blocking _ (sym (answer c.before) ∙ c.in-At.is)))
+    sym (ap is_there (met_window a.rows.now a.rank c.requires.0 a.blocking _ (sym (answer c.before) ∙ c.in-Some.is)))
 
-returns-in-Nothing : tie.Need-returns-in-Nothing
-returns-in-Nothing c =
+returns-in-None : tie.Need-returns-in-None
+returns-in-None c =
     let a = c.args in
-    sym (ap is_there (met_no_window a.rows.now a.rank c.requires.0 a.blocking (sym (answer c.before) ∙ c.in-Nothing.is)))
+    sym (ap is_there (met_no_window a.rows.now a.rank c.requires.0 a.blocking (sym (answer c.before) ∙ c.in-None.is)))
 
 pub has_window_spec : {M : Type 1} → statement M
-has_window_spec = tie.close (tie.spec overflow_add-rank wide-requires overflow_sub-met met-search-requires enum_told-1 enum_told-in-Nothing returns-in-At returns-in-Nothing)
+has_window_spec = tie.close (tie.spec overflow_add-rank wide-requires overflow_sub-met met-search-requires enum_told-1 enum_told-in-None returns-in-Some returns-in-None)

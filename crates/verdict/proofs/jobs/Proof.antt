@@ -1,3 +1,4 @@
+use Rattle.std.specs.Prelude.{Some, Option, Ok}
 use borrow.Author.Rules.{rules}
 use native.Mathlib.Omega.{arith}
 use mathlib.Core.Path.{◌≡◌, sym, ap, ◌∙◌, subst}
@@ -5,9 +6,6 @@ use Prim.Native.Nat.{ℕ, ◌+◌, ◌-◌, ◌≤◌, ◌<◌, min}
 use Rattle.model.specs.declared.order.Task.{Task}
 use Rattle.model.specs.Limits.{horizon, cost}
 use Rattle.model.specs.Rules.{Sized}
-use Rattle.search.specs.declared.Found.{Found}
-use Rattle.search.specs.declared.Found.TheVariants.{At}
-use Rattle.demand.specs.declared.Verdict.TheVariants.{Passes}
 use Rattle.demand.proofs.Over.{Grows}
 use Rattle.asked.specs.Rows.{row_task, asked_by, RowsFit}
 use Rattle.asked.specs.Met.{met_by, StillFrom}
@@ -121,17 +119,17 @@ returns-in_default c =
 
 -- the start, from the release to the deadline less the cost
 
-at-start : (c : tie.In-At invariant-loop-release decreases-loop-release) → met_by (work c.before.before.before.before.before.before.before.before.before) (c.loop-release.base + 1) (c.loop-release.release + (own c.before.before.before.before.before.before.before.before.before).deadline - (own c.before.before.before.before.before.before.before.before.before).run) ≡ At c.in-At.start
-at-start c = sym (answer c.before) ∙ c.in-At.is
+at-start : (c : tie.In-Some invariant-loop-release decreases-loop-release) → met_by (work c.before.before.before.before.before.before.before.before.before) (c.loop-release.base + 1) (c.loop-release.release + (own c.before.before.before.before.before.before.before.before.before).deadline - (own c.before.before.before.before.before.before.before.before.before).run) ≡ Some c.in-Some.start
+at-start c = sym (answer c.before) ∙ c.in-Some.is
 
-in_time_lem : (c : tie.In-At invariant-loop-release decreases-loop-release) → (c.loop-release.release ≤ c.in-At.start) × (c.in-At.start + (own c.before.before.before.before.before.before.before.before.before).run ≤ c.loop-release.release + (own c.before.before.before.before.before.before.before.before.before).deadline)
+in_time_lem : (c : tie.In-Some invariant-loop-release decreases-loop-release) → (c.loop-release.release ≤ c.in-Some.start) × (c.in-Some.start + (own c.before.before.before.before.before.before.before.before.before).run ≤ c.loop-release.release + (own c.before.before.before.before.before.before.before.before.before).deadline)
 unfolding cost
-in_time_lem c = (start_late (work c.before.before.before.before.before.before.before.before.before) (grows c.before.before.before.before.before.before.before.before.before) c.args.blocking (own c.before.before.before.before.before.before.before.before.before) (sized_row c.before.before.before.before.before.before.before.before.before) c.loop-release.invariant.0.0 c.loop-release.base c.loop-release.release c.loop-release.begin c.loop-release.worst c.loop-release.invariant.0.1 c.loop-release-test.true c.in-At.start (at-start c), end_due (work c.before.before.before.before.before.before.before.before.before) (grows c.before.before.before.before.before.before.before.before.before) c.args.blocking (own c.before.before.before.before.before.before.before.before.before) (sized_row c.before.before.before.before.before.before.before.before.before) c.loop-release.invariant.0.0 c.loop-release.base c.loop-release.release c.loop-release.begin c.loop-release.worst c.loop-release.invariant.0.1 c.loop-release-test.true c.in-At.start (at-start c))
+in_time_lem c = (start_late (work c.before.before.before.before.before.before.before.before.before) (grows c.before.before.before.before.before.before.before.before.before) c.args.blocking (own c.before.before.before.before.before.before.before.before.before) (sized_row c.before.before.before.before.before.before.before.before.before) c.loop-release.invariant.0.0 c.loop-release.base c.loop-release.release c.loop-release.begin c.loop-release.worst c.loop-release.invariant.0.1 c.loop-release-test.true c.in-Some.start (at-start c), end_due (work c.before.before.before.before.before.before.before.before.before) (grows c.before.before.before.before.before.before.before.before.before) c.args.blocking (own c.before.before.before.before.before.before.before.before.before) (sized_row c.before.before.before.before.before.before.before.before.before) c.loop-release.invariant.0.0 c.loop-release.base c.loop-release.release c.loop-release.begin c.loop-release.worst c.loop-release.invariant.0.1 c.loop-release-test.true c.in-Some.start (at-start c))
 
 -- nothing more is asked until the next release
 
-quiet : (c : tie.In-At invariant-loop-release decreases-loop-release) → StillFrom (work c.before.before.before.before.before.before.before.before.before) (At c.in-At.start) c.met-search.result.next
-quiet c = subst (λ (f : Found). StillFrom (work c.before.before.before.before.before.before.before.before.before) f c.met-search.result.next) c.in-At.is c.met-search.ensures.1
+quiet : (c : tie.In-Some invariant-loop-release decreases-loop-release) → StillFrom (work c.before.before.before.before.before.before.before.before.before) (Some c.in-Some.start) c.met-search.result.next
+quiet c = subst (λ (f : Option ℕ). StillFrom (work c.before.before.before.before.before.before.before.before.before) f c.met-search.result.next) c.in-Some.is c.met-search.ensures.1
 
 overflow_cast-end : tie.Need-overflow_cast-end invariant-loop-release decreases-loop-release
 overflow_cast-end c = record { fits = omega (arith, in_time_lem c, sizes c.before.before.before.before.before.before.before.before.before, c.loop-release-test.true) }
@@ -165,8 +163,8 @@ closing-requires c κs =
       omega (arith, in_time_lem c.before.before, sizes', early),
       omega (arith, c.smaller-begin.ensures, sizes'),
       omega (arith, c.smaller-begin.ensures),
-      unmet_end (work c.before.before.before.before.before.before.before.before.before.before.before) (grows c.before.before.before.before.before.before.before.before.before.before.before) c.args.blocking (own c.before.before.before.before.before.before.before.before.before.before.before) (sized_row c.before.before.before.before.before.before.before.before.before.before.before) c.loop-release.invariant.0.0 c.loop-release.base c.loop-release.release c.loop-release.begin c.loop-release.worst c.loop-release.invariant.0.1 c.loop-release-test.true c.in-At.start (at-start c.before.before),
-      met_end (work c.before.before.before.before.before.before.before.before.before.before.before) (grows c.before.before.before.before.before.before.before.before.before.before.before) c.args.blocking (own c.before.before.before.before.before.before.before.before.before.before.before) (sized_row c.before.before.before.before.before.before.before.before.before.before.before) c.loop-release.invariant.0.0 c.loop-release.base c.loop-release.release c.loop-release.begin c.loop-release.worst c.loop-release.invariant.0.1 c.loop-release-test.true c.in-At.start (at-start c.before.before) c.met-search.result.next (quiet c.before.before),
+      unmet_end (work c.before.before.before.before.before.before.before.before.before.before.before) (grows c.before.before.before.before.before.before.before.before.before.before.before) c.args.blocking (own c.before.before.before.before.before.before.before.before.before.before.before) (sized_row c.before.before.before.before.before.before.before.before.before.before.before) c.loop-release.invariant.0.0 c.loop-release.base c.loop-release.release c.loop-release.begin c.loop-release.worst c.loop-release.invariant.0.1 c.loop-release-test.true c.in-Some.start (at-start c.before.before),
+      met_end (work c.before.before.before.before.before.before.before.before.before.before.before) (grows c.before.before.before.before.before.before.before.before.before.before.before) c.args.blocking (own c.before.before.before.before.before.before.before.before.before.before.before) (sized_row c.before.before.before.before.before.before.before.before.before.before.before) c.loop-release.invariant.0.0 c.loop-release.base c.loop-release.release c.loop-release.begin c.loop-release.worst c.loop-release.invariant.0.1 c.loop-release-test.true c.in-Some.start (at-start c.before.before) c.met-search.result.next (quiet c.before.before),
     )
 
 -- what the search for the window's end answers
@@ -175,9 +173,9 @@ ending : (c : tie.After-closing invariant-loop-release decreases-loop-release) �
     c.closing.result ≡ met_by (work c.before.before.before.before.before.before.before.before.before.before.before.before) (c.loop-release.base + (own c.before.before.before.before.before.before.before.before.before.before.before.before).run) (min horizon (c.loop-release.release + (own c.before.before.before.before.before.before.before.before.before.before.before.before).period) - 1)
 ending c = c.closing.ensures ∙ ap (λ (x : ℕ). met_by (work c.before.before.before.before.before.before.before.before.before.before.before.before) (c.loop-release.base + (own c.before.before.before.before.before.before.before.before.before.before.before.before).run) (x - 1)) c.smaller-begin.ensures
 
-limit-near : (c : tie.In-At-closing invariant-loop-release decreases-loop-release) → c.in-At-closing.last < 1_000_000
+limit-near : (c : tie.In-Some-closing invariant-loop-release decreases-loop-release) → c.in-Some-closing.last < 1_000_000
 limit-near c =
-    let m = said.met_says (work c.before.before.before.before.before.before.before.before.before.before.before.before.before) (c.loop-release.base + (own c.before.before.before.before.before.before.before.before.before.before.before.before.before).run) (min horizon (c.loop-release.release + (own c.before.before.before.before.before.before.before.before.before.before.before.before.before).period) - 1) (At c.in-At-closing.last) (sym (ending c.before) ∙ c.in-At-closing.is) in
+    let m = said.met_says (work c.before.before.before.before.before.before.before.before.before.before.before.before.before) (c.loop-release.base + (own c.before.before.before.before.before.before.before.before.before.before.before.before.before).run) (min horizon (c.loop-release.release + (own c.before.before.before.before.before.before.before.before.before.before.before.before.before).period) - 1) (Some c.in-Some-closing.last) (sym (ending c.before) ∙ c.in-Some-closing.is) in
     omega (arith, m.upto)
 
 enum_known-last : tie.Need-enum_known-last invariant-loop-release decreases-loop-release
@@ -186,13 +184,13 @@ enum_known-last c = search rules
 overflow_cast-result : tie.Need-overflow_cast-result invariant-loop-release decreases-loop-release
 overflow_cast-result c = record { fits = omega (arith, limit-near c) }
 
-returns-in-At-closing : tie.Need-returns-in-At-closing invariant-loop-release decreases-loop-release
+returns-in-Some-closing : tie.Need-returns-in-Some-closing invariant-loop-release decreases-loop-release
 unfolding cost
-returns-in-At-closing c =
-    let last = c.in-At-closing.last in
-    let at_last = sym (ending c.before) ∙ c.in-At-closing.is in
-    let start = c.in-At.start in
-    passed_as c.args.rows.now c.args.rank c.requires.0 c.args.blocking c.larger-worst.result last (closing (work c.before.before.before.before.before.before.before.before.before.before.before.before.before) (grows c.before.before.before.before.before.before.before.before.before.before.before.before.before) c.args.blocking (own c.before.before.before.before.before.before.before.before.before.before.before.before.before) (sized_row c.before.before.before.before.before.before.before.before.before.before.before.before.before) c.loop-release.invariant.0.0 c.loop-release.base c.loop-release.release c.loop-release.begin c.loop-release.worst c.loop-release.invariant.0.1 c.loop-release-test.true start (at-start c.before.before.before.before) last at_last ∙ ap Passes (sym c.larger-worst.ensures)) (omega (arith, limit-near c))
+returns-in-Some-closing c =
+    let last = c.in-Some-closing.last in
+    let at_last = sym (ending c.before) ∙ c.in-Some-closing.is in
+    let start = c.in-Some.start in
+    passed_as c.args.rows.now c.args.rank c.requires.0 c.args.blocking c.larger-worst.result last (closing (work c.before.before.before.before.before.before.before.before.before.before.before.before.before) (grows c.before.before.before.before.before.before.before.before.before.before.before.before.before) c.args.blocking (own c.before.before.before.before.before.before.before.before.before.before.before.before.before) (sized_row c.before.before.before.before.before.before.before.before.before.before.before.before.before) c.loop-release.invariant.0.0 c.loop-release.base c.loop-release.release c.loop-release.begin c.loop-release.worst c.loop-release.invariant.0.1 c.loop-release-test.true start (at-start c.before.before.before.before) last at_last ∙ ap Ok (sym c.larger-worst.ensures)) (omega (arith, limit-near c))
     (open_unmet c.args.rows.now c.args.rank c.requires.0 c.args.blocking last (omega (arith, limit-near c)) (closing_open (work c.before.before.before.before.before.before.before.before.before.before.before.before.before) (grows c.before.before.before.before.before.before.before.before.before.before.before.before.before) c.args.blocking (own c.before.before.before.before.before.before.before.before.before.before.before.before.before) (sized_row c.before.before.before.before.before.before.before.before.before.before.before.before.before) c.loop-release.invariant.0.0 c.loop-release.base c.loop-release.release c.loop-release.begin c.loop-release.worst c.loop-release.invariant.0.1 c.loop-release-test.true start (at-start c.before.before.before.before) last at_last))
 
 enum_told-in_default-closing : tie.Need-enum_told-in_default-closing invariant-loop-release decreases-loop-release
@@ -206,7 +204,7 @@ unfolding cost
 loop-release-preserved c = (
   (
     c.loop-release.invariant.0.0 + 1,
-    rw (c.larger-worst.ensures, c.smaller-begin.ensures) (going_on_lem (work c.before.before.before.before.before.before.before.before.before.before.before.before.before) (grows c.before.before.before.before.before.before.before.before.before.before.before.before.before) c.args.blocking (own c.before.before.before.before.before.before.before.before.before.before.before.before.before) (sized_row c.before.before.before.before.before.before.before.before.before.before.before.before.before) c.loop-release.invariant.0.0 c.loop-release.base c.loop-release.release c.loop-release.begin c.loop-release.worst c.loop-release.invariant.0.1 c.loop-release-test.true c.in-At.start (at-start c.before.before.before.before) (sym (ending c.before) ∙ c.in_default-closing.is)),
+    rw (c.larger-worst.ensures, c.smaller-begin.ensures) (going_on_lem (work c.before.before.before.before.before.before.before.before.before.before.before.before.before) (grows c.before.before.before.before.before.before.before.before.before.before.before.before.before) c.args.blocking (own c.before.before.before.before.before.before.before.before.before.before.before.before.before) (sized_row c.before.before.before.before.before.before.before.before.before.before.before.before.before) c.loop-release.invariant.0.0 c.loop-release.base c.loop-release.release c.loop-release.begin c.loop-release.worst c.loop-release.invariant.0.1 c.loop-release-test.true c.in-Some.start (at-start c.before.before.before.before) (sym (ending c.before) ∙ c.in_default-closing.is)),
   ),
   omega (arith, c.smaller-begin.ensures),
 )
@@ -220,4 +218,4 @@ returns c =
     failed_as c.args.rows.now c.args.rank c.requires.0 c.args.blocking horizon (open_fails (work c.before.before.before.before.before.before.before) (grows c.before.before.before.before.before.before.before) c.args.blocking (own c.before.before.before.before.before.before.before) (sized_row c.before.before.before.before.before.before.before) c.loop-release.release c.loop-release-test.false done) (omega arith) (open_unmet c.args.rows.now c.args.rank c.requires.0 c.args.blocking horizon (omega arith) (λ s x y h. done s x (omega (arith, c.loop-release-test.false)) h)) c.failed-2.result c.failed-2.ensures
 
 pub jobs_spec : {M : Type 1} → statement M
-jobs_spec = tie.close (tie.spec invariant-loop-release decreases-loop-release overflow_add-period offset_bounds-rows-rank bounds-rows-rank overflow_add-cost offset_bounds-rows-rank-2 bounds-rows-rank-2 overflow_add-deadline offset_bounds-rows-rank-3 bounds-rows-rank-3 loop-release-init overflow_add-due overflow_sub-due wide-requires overflow_add-wide met-search-requires enum_known-found enum_told-1 overflow_add-due-in_default failed-requires returns-in_default overflow_cast-end overflow_add-end overflow_sub-end larger-worst-requires overflow_add-base overflow_add-release smaller-begin-requires closing-requires enum_known-last overflow_cast-result returns-in-At-closing enum_told-in_default-closing loop-release-smaller loop-release-preserved failed-requires-2 returns)
+jobs_spec = tie.close (tie.spec invariant-loop-release decreases-loop-release overflow_add-period offset_bounds-rows-rank bounds-rows-rank overflow_add-cost offset_bounds-rows-rank-2 bounds-rows-rank-2 overflow_add-deadline offset_bounds-rows-rank-3 bounds-rows-rank-3 loop-release-init overflow_add-due overflow_sub-due wide-requires overflow_add-wide met-search-requires enum_known-found enum_told-1 overflow_add-due-in_default failed-requires returns-in_default overflow_cast-end overflow_add-end overflow_sub-end larger-worst-requires overflow_add-base overflow_add-release smaller-begin-requires closing-requires enum_known-last overflow_cast-result returns-in-Some-closing enum_told-in_default-closing loop-release-smaller loop-release-preserved failed-requires-2 returns)

@@ -1,14 +1,14 @@
+use Rattle.std.specs.Prelude.{Err}
 use mathlib.Core.Path.{refl, ap, ◌∙◌}
 use Rattle.model.specs.declared.build.Build.{Build}
-use Rattle.model.specs.declared.answer.Answer.TheVariants.{Refused}
 use Rattle.fit.proofs.Built.{recorded_refused, recorded_done}
 use Rattle.fit.proofs.records.first_fit.Goals as goal
 
-pub returns-in-Refused : goal.returns-in-Refused
-returns-in-Refused c =
+pub returns-in-Err : goal.returns-in-Err
+returns-in-Err c =
     let turns = c.take_turns-outcome in
-    ap (λ (b : Build). record { answer = Refused c.in-Refused.cause; build = b }) c.empty.ensures
-    ∙ recorded_refused c.args.order turns.result turns.ensures.answer c.in-Refused.cause c.in-Refused.is
+    ap (λ (b : Build). record { answer = Err c.in-Err.cause; build = b }) c.empty.ensures
+    ∙ recorded_refused c.args.order turns.result turns.ensures.answer c.in-Err.cause c.in-Err.is
 
 pub records_of-members-requires : goal.records_of-members-requires
 records_of-members-requires c = (let turns = c.take_turns-outcome in

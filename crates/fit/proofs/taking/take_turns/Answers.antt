@@ -8,8 +8,8 @@ loop-placed-init c = (c.requires.0, at_first c.args.order c.requires.0 c.nothing
 pub take_turn-outcome-requires : goal.take_turn-outcome-requires
 take_turn-outcome-requires c = record { limits = c.loop-placed.invariant.0; rows = c.row_table-table.ensures; early = c.loop-placed-test.true; lines = c.loop-placed.invariant.1.lines }
 
-pub returns-in-Refused : goal.returns-in-Refused
-returns-in-Refused c = one_refused c.args.order c.loop-placed.invariant.0 c.loop-placed.placing c.loop-placed.placed c.loop-placed.keys c.loop-placed.lasts c.loop-placed.worsts c.loop-placed.invariant.1 c.loop-placed-test.true c.take_turn-outcome.result _ _ _ c.take_turn-outcome.ensures _ c.in-Refused.is
+pub returns-in-Err : goal.returns-in-Err
+returns-in-Err c = one_refused c.args.order c.loop-placed.invariant.0 c.loop-placed.placing c.loop-placed.placed c.loop-placed.keys c.loop-placed.lasts c.loop-placed.worsts c.loop-placed.invariant.1 c.loop-placed-test.true c.take_turn-outcome.result _ _ _ c.take_turn-outcome.ensures _ c.in-Err.is
 
 pub loop-placed-smaller : goal.loop-placed-smaller
 loop-placed-smaller c = (let early = c.loop-placed-test.true in omega arith)

@@ -9,10 +9,10 @@ use Rattle.model.proofs.order.Order.judge.Goals as goal
 pub loop-i-init : goal.loop-i-init
 loop-i-init c = (search rules, range_none c.args.self)
 
-pub returns-in-Refused : goal.returns-in-Refused
-returns-in-Refused c =
+pub returns-in-Err : goal.returns-in-Err
+returns-in-Err c =
     let o = c.args.self in
-    sym (range_stop o c.loop-i.i c.loop-i-test.true c.loop-i.invariant.1 (sym c.judge-judged.ensures ∙ c.in-Refused.is))
+    sym (range_stop o c.loop-i.i c.loop-i-test.true c.loop-i.invariant.1 (sym c.judge-judged.ensures ∙ c.in-Err.is))
 
 pub loop-i-preserved : goal.loop-i-preserved
 loop-i-preserved c =
