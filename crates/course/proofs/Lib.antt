@@ -3,5 +3,5 @@ pub mod Gathering
 pub mod Passing
 pub mod Turning
 pub mod Heads
-pub mod Ok
+pub mod Done
 pub mod Prepared

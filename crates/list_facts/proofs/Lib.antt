@@ -6,7 +6,7 @@ pub mod First
 pub mod Second
 pub mod Item
 pub mod Walk
-pub mod Err
+pub mod Refused
 pub mod Written
 pub mod Cases
 pub mod Back

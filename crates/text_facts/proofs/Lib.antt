@@ -1,7 +1,7 @@
 pub mod Once
 pub mod Rules
 pub mod Read
-pub mod Err
+pub mod Refused
 pub mod Write
 pub mod Back
 pub mod Cases

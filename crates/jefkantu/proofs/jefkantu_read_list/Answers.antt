@@ -2,7 +2,7 @@ use mathlib.Core.Path.{◌≡◌, sym, ◌∙◌}
 use Rattle.jefkantu.specs.Lists.{set_after}
 use Rattle.jefkantu.proofs.Surface.{set_done, set_refused}
 use Rattle.jefkantu.proofs.jefkantu_read_list.Goals as goal
-use Rattle.jefkantu.proofs.jefkantu_read_list.Goals.{in-Done, in_default}
+use Rattle.jefkantu.proofs.jefkantu_read_list.Goals.{in-Ok, in_default}
 
 -- the list was accepted and its set told, or refused and the set left
 written : (c : goal.After-answer_word) → let reading = c.read_list-reading.result in

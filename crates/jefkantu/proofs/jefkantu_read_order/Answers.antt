@@ -2,7 +2,7 @@ use mathlib.Core.Path.{◌≡◌, sym, ◌∙◌}
 use Rattle.jefkantu.specs.Surface.{numbers_after}
 use Rattle.jefkantu.proofs.Surface.{numbers_done, numbers_refused}
 use Rattle.jefkantu.proofs.jefkantu_read_order.Goals as goal
-use Rattle.jefkantu.proofs.jefkantu_read_order.Goals.{in-Done, in_default}
+use Rattle.jefkantu.proofs.jefkantu_read_order.Goals.{in-Ok, in_default}
 
 -- the order was accepted and told, or refused and the numbers left
 written : (c : goal.After-answer_word) → let reading = c.read_order-reading.result in
