@@ -1,5 +1,7 @@
 -- Laws of rules in order: their tests part by part, a scan index by index, and what the first broken one means.
-use Rattle.std.specs.Prelude.{Ok, Err}
+use Rattle.std.specs.Prelude.{Result, Ok, Err}
+use Rattle.std.specs.Result.{IsErrAnd}
+use Rattle.std.proofs.lemmas.Result.{err_from_is_err_and}
 use mathlib.Core.Path.{◌≡◌, refl, sym, ap, ◌∙◌}
 use mathlib.Core.Bool.{Bool, true, false}
 use mathlib.Core.List.{List, [], ◌∷◌, ◌++◌}
@@ -13,10 +15,35 @@ use Rattle.laws.proofs.Choice.{within_true, true_within}
 use Rattle.laws.proofs.Every.{clash}
 use Rattle.laws.proofs.Joined.{joined_none, joined_more, joined_at}
 use Rattle.model.specs.Kinds.{Answer, Refusal, OfCall, Output}
-use Rattle.model.specs.Rules.{Fact, Rule, rule, first_broken, AllKept, FirstOffence, RightAnswer, Tells, TestsTell, OneRightAnswer, equal, at_most, in_range, room_rules}
+use Rattle.model.specs.Rules.{Fact, Rule, rule, first_broken, given, AllKept, FirstOffence, RightAnswer, Tells, TestsTell, OneRightAnswer, equal, at_most, in_range, room_rules}
 
 pub never : {A : Type 0} {cause : Refusal} {count : ℕ} → Err cause ≡ Ok count → A
 never e = let z : ◌≡◌ {A = ℕ} 0 1 = cc in absurd (omega arith)
+
+-- what is given, by the answer that gives it
+module _ {V : Type 0} (value : V) where
+  pub given_done : {count : ℕ} (answer : Answer) → answer ≡ Ok count → given value answer ≡ Ok value
+  unfolding given
+  given_done (Ok count) e = refl
+  given_done (Err refusal) e = never e
+
+  pub given_refused : (answer : Answer) {refusal : Refusal} → answer ≡ Err refusal → given value answer ≡ Err refusal
+  unfolding given
+  given_refused answer e = ap (given value) e
+
+  pub refused_given : (answer : Answer) {refusal : Refusal} → given value answer ≡ Err refusal → answer ≡ Err refusal
+  unfolding given
+  refused_given (Ok count) e = let z : ◌≡◌ {A = ℕ} 0 1 = cc in absurd (omega arith)
+  refused_given (Err refusal) e = cc
+
+  pub done_given : (answer : Answer) {read : V} → given value answer ≡ Ok read → (count : ℕ) × (answer ≡ Ok count) × (read ≡ value)
+  unfolding given
+  done_given (Ok count) e = (count, refl, cc)
+  done_given (Err refusal) e = let z : ◌≡◌ {A = ℕ} 0 1 = cc in absurd (omega arith)
+
+-- what `?` hands on: the refusal that it met
+pub handed_on : {V : Type 0} (answer : Result V Refusal) {refusal : Refusal} → IsErrAnd answer (λ x. x ≡ refusal) → answer ≡ Err refusal
+handed_on answer is = let met = err_from_is_err_and answer is in met.1 ∙ ap Err met.2
 
 -- every test passes
 unfoldable pub AllPass : List Rule → Type 0

@@ -1,5 +1,5 @@
 -- Rules in document order, each with what it says; the answer that they give: the first broken one refuses.
-use Rattle.std.specs.Prelude.{ℕ, ◌≤◌, ◌<◌, leb, eqb, length, ◌≡◌, Bool, true, List, [], ◌∷◌, ◌↔◌, ◌⊎◌, Ok, Err}
+use Rattle.std.specs.Prelude.{ℕ, ◌≤◌, ◌<◌, leb, eqb, length, ◌≡◌, Bool, true, List, [], ◌∷◌, ◌↔◌, ◌⊎◌, Ok, Err, Result}
 use Rattle.laws.specs.Choice.{pick, within}
 use Rattle.laws.specs.Joined.{joined}
 use Rattle.model.specs.Kinds.{Task, Order, Answer, Refusal, OfOrder, OfCall, Width, Period, Deadline, RunTime, Output}
@@ -22,6 +22,11 @@ rule fact refusal = record { fact = fact; refusal = refusal }
 unfoldable pub first_broken : ℕ → List Rule → Answer
 first_broken count [] = Ok count
 first_broken count (r ∷ rules) = pick r.fact.test (first_broken count rules) (Err r.refusal)
+
+-- what an answer gives: a value where it is done, else its refusal
+unfoldable pub given : {A : Type 0} → A → Answer → Result A Refusal
+given value (Ok count) = Ok value
+given value (Err refusal) = Err refusal
 
 -- every rule holds
 unfoldable pub AllKept : List Rule → Type 0
