@@ -61,7 +61,7 @@ pub record HasFirstLate (o : Order) (member : Members) (i : ℕ) : Type 0 where
   pub in_window : JobInWindow o member i (late_job o member i) (late_start o member i)
 
 abbrev pub TooLateHasFirst : Type 0
-TooLateHasFirst = (o : Order) (member : Members) (i : ℕ) → IsMember o member i → verdict o member i ≡ (Err TooLate) → HasFirstLate o member i
+TooLateHasFirst = (o : Order) (member : Members) (i : ℕ) → IsMember o member i → verdict o member i ≡ Err TooLate → HasFirstLate o member i
 
 -- a script misses task i: its last job comes at a tick, and finishes after its deadline
 pub record Misses (o : Order) (member : Members) (i : ℕ) (script : List Release) : Type 0 where
@@ -81,7 +81,7 @@ pub record LateScriptMisses (o : Order) (member : Members) (i : ℕ) : Type 0 wh
       → (finish : ℕ) × (Ends o member (pattern_of (late_script o member i)) i release finish) × (finish ≤ release + deadline_of o i)
 
 abbrev pub TooLateMisses : Type 0
-TooLateMisses = (o : Order) (member : Members) (i : ℕ) → IsMember o member i → verdict o member i ≡ (Err TooLate) → LateScriptMisses o member i
+TooLateMisses = (o : Order) (member : Members) (i : ℕ) → IsMember o member i → verdict o member i ≡ Err TooLate → LateScriptMisses o member i
 
 -- whatever window and starts a member has: every job of every legal pattern finishes within a response that all starts keep to
 abbrev pub WithinAnyWorst : Type 0

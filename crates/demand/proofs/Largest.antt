@@ -71,7 +71,7 @@ module _ (f : ℕ → Option ℕ) where
       (max was.0 here.0, rw (was.1, here.1))
 
   -- one late response is enough
-  pub judged_late : (k deadline q x : ℕ) → ((q : ℕ) → q < k → (x : ℕ) × (f q ≡ Some x)) → q < k → f q ≡ Some x → deadline < x → judged deadline (largest_found f k) ≡ (Err TooLate)
+  pub judged_late : (k deadline q x : ℕ) → ((q : ℕ) → q < k → (x : ℕ) × (f q ≡ Some x)) → q < k → f q ≡ Some x → deadline < x → judged deadline (largest_found f k) ≡ Err TooLate
   judged_late k deadline q x all l e late =
       let most = largest_there k all in
       let r = (largest_says k most.0 most.1).each q l in

@@ -26,7 +26,7 @@ clash : {A : Type 0} → ◌≡◌ {A = ℕ} 0 1 → A
 clash e = absurd (omega arith)
 
 module _ (o : Order) (member : Members) (i : ℕ) where
-  pub verdict_none : window o member i ≡ None → verdict o member i ≡ (Err NoWindow)
+  pub verdict_none : window o member i ≡ None → verdict o member i ≡ Err NoWindow
   unfolding verdict
   verdict_none e = rw e
 
@@ -117,7 +117,7 @@ module _ (o : Order) (member : Members) (i : ℕ) where
           }
 
       -- one late response is enough
-      pub late_one : (q x : ℕ) → q * period_of o i < L → response o member i q ≡ Some x → deadline_of o i < x → verdict o member i ≡ (Err TooLate)
+      pub late_one : (q x : ℕ) → q * period_of o i < L → response o member i q ≡ Some x → deadline_of o i < x → verdict o member i ≡ Err TooLate
       late_one q x l e lt =
           verdict_in_lem L (is_window L win)
           ∙ judged_late (response o member i) (jobs (task_of o i) L) (deadline_of o i) q x
@@ -129,9 +129,9 @@ module _ (o : Order) (member : Members) (i : ℕ) where
 
     -- the three cases of a verdict
     pub data Cases : Type 0 where
-      without : NeverMet (window_demand o member i) 1 → verdict o member i ≡ (Err NoWindow) → Cases
+      without : NeverMet (window_demand o member i) 1 → verdict o member i ≡ Err NoWindow → Cases
       in_time_lem : (m : ℕ) → IsPassing o member i m → verdict o member i ≡ Ok m → Cases
-      too_late : IsLate o member i → verdict o member i ≡ (Err TooLate) → Cases
+      too_late : IsLate o member i → verdict o member i ≡ Err TooLate → Cases
 
     pub cases : Cases
     cases = by_window (window o member i) refl
@@ -162,7 +162,7 @@ module _ (o : Order) (member : Members) (i : ℕ) where
         let same : m ≡ r = omega (arith, at_one below.0 m up, below.2, at_one there.0 r down, there.2) in
         passes_with L win m w.1 (omega (arith, p.in_time_lem)) ∙ ap Ok same
 
-    is_late : IsLate o member i → verdict o member i ≡ (Err TooLate)
+    is_late : IsLate o member i → verdict o member i ≡ Err TooLate
     is_late p =
         let q = p.late.0 in
         let x = p.late.2.0 in
@@ -173,11 +173,11 @@ module _ (o : Order) (member : Members) (i : ℕ) where
         let j = job_of o member i limits mine p.size p.missing.0 p.window p.missing.1 in
         omega (arith, p.missing.2 j.at (omega arith) j.is.upto, j.is.met)
 
-    is_without : NeverMet (window_demand o member i) 1 → verdict o member i ≡ (Err NoWindow)
+    is_without : NeverMet (window_demand o member i) 1 → verdict o member i ≡ Err NoWindow
     unfolding window
     is_without never = verdict_none (met_never (window_demand o member i) 1 never)
 
-    pub never_no_start : verdict o member i ≡ (Err NoStart) → ⊥
+    pub never_no_start : verdict o member i ≡ Err NoStart → ⊥
     never_no_start e = go cases
       where
         go : Cases → ⊥
@@ -193,7 +193,7 @@ module _ (o : Order) (member : Members) (i : ℕ) where
         go (in_time_lem m a v) = let same : m ≡ r = cc (sym v ∙ e) in subst (λ (x : ℕ). IsPassing o member i x) same a
         go (too_late a v) = clash (cc (sym v ∙ e))
 
-    says_late : verdict o member i ≡ (Err TooLate) → IsLate o member i
+    says_late : verdict o member i ≡ Err TooLate → IsLate o member i
     says_late e = go cases
       where
         go : Cases → IsLate o member i
@@ -201,7 +201,7 @@ module _ (o : Order) (member : Members) (i : ℕ) where
         go (in_time_lem m a v) = clash (cc (sym v ∙ e))
         go (too_late a v) = a
 
-    says_without : verdict o member i ≡ (Err NoWindow) → NeverMet (window_demand o member i) 1
+    says_without : verdict o member i ≡ Err NoWindow → NeverMet (window_demand o member i) 1
     says_without e = go cases
       where
         go : Cases → NeverMet (window_demand o member i) 1

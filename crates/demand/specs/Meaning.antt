@@ -57,9 +57,9 @@ module _ (o : Order) (member : Members) (i : ℕ) where
   -- what each verdict says
   pub record VerdictMeans : Type 0 where
     pub passes : (worst : ℕ) → (verdict o member i ≡ Ok worst) ↔ IsPassing worst
-    pub no_window : (verdict o member i ≡ (Err NoWindow)) ↔ NeverMet (window_demand o member i) 1
-    pub no_start : (verdict o member i ≡ (Err NoStart)) ↔ IsWithoutStart
-    pub late : (verdict o member i ≡ (Err TooLate)) ↔ IsLate
+    pub no_window : (verdict o member i ≡ Err NoWindow) ↔ NeverMet (window_demand o member i) 1
+    pub no_start : (verdict o member i ≡ Err NoStart) ↔ IsWithoutStart
+    pub late : (verdict o member i ≡ Err TooLate) ↔ IsLate
 
 -- every verdict says just that
 abbrev pub EveryVerdictMeans : Type 0
@@ -67,7 +67,7 @@ EveryVerdictMeans = (o : Order) (member : Members) (i : ℕ) → WithinLimits o 
 
 -- a window that closes by H gives every needed start by H too
 abbrev pub NoStartNever : Type 0
-NoStartNever = (o : Order) (member : Members) (i : ℕ) → WithinLimits o → i < o.tasks → verdict o member i ≡ (Err NoStart) → ⊥
+NoStartNever = (o : Order) (member : Members) (i : ℕ) → WithinLimits o → i < o.tasks → verdict o member i ≡ Err NoStart → ⊥
 
 -- "A task alone always passes.", with its cost for a response
 abbrev pub AlonePasses : Type 0

@@ -57,12 +57,12 @@ largest_found f (suc k) = larger_found (largest_found f k) (f k)
 
 -- "Member i passes if it is at most D_i"
 abbrev pub judged : ℕ → Option ℕ → Verdict
-judged deadline None = (Err NoStart)
+judged deadline None = Err NoStart
 judged deadline (Some worst) = pick (leb worst deadline) (Ok worst) (Err TooLate)
 
 -- "without a window or one of its starts it does not pass"
 abbrev pub verdict_by : Option ℕ → (ℕ → Option ℕ) → ℕ → Verdict
-verdict_by None worst deadline = (Err NoWindow)
+verdict_by None worst deadline = Err NoWindow
 verdict_by (Some L) worst deadline = judged deadline (worst L)
 
 module _ (o : Order) (member : Members) (i : ℕ) where

@@ -82,7 +82,7 @@ module _ (o : Order) (b : Build) (limits : WithinLimits o) (results : Results) (
     unfolding first_broken
     refused_response some = by_verdict (Ok (worst_of i)) (OfBuild (Response i)) (passes i l (omega (arith, first)) some) (rw (differs some))
 
-    none : worst_of i ≡ 0 → (verdict_here o b i ≡ (Err NoWindow)) ⊎ (verdict_here o b i ≡ (Err TooLate))
+    none : worst_of i ≡ 0 → (verdict_here o b i ≡ Err NoWindow) ⊎ (verdict_here o b i ≡ Err TooLate)
     none e = no_response o (members_of b (home_of b i)) i limits l (sym (are.responses i l (omega (arith, first, upto_lowest))) ∙ e)
 
     -- 29
@@ -90,8 +90,8 @@ module _ (o : Order) (b : Build) (limits : WithinLimits o) (results : Results) (
     unfolding first_broken
     refused_late e there =
         ⊎_elim
-        (λ (v : verdict_here o b i ≡ (Err NoWindow)). clash (sym (there ∙ ap window_there v)))
-        (λ (v : verdict_here o b i ≡ (Err TooLate)). by_verdict (Err TooLate) (OfBuild (Late i)) v refl)
+        (λ (v : verdict_here o b i ≡ Err NoWindow). clash (sym (there ∙ ap window_there v)))
+        (λ (v : verdict_here o b i ≡ Err TooLate). by_verdict (Err TooLate) (OfBuild (Late i)) v refl)
         (none e)
 
     -- 27
@@ -99,6 +99,6 @@ module _ (o : Order) (b : Build) (limits : WithinLimits o) (results : Results) (
     unfolding first_broken
     refused_window e absent =
         ⊎_elim
-        (λ (v : verdict_here o b i ≡ (Err NoWindow)). by_verdict (Err NoWindow) (OfBuild (Window i)) v refl)
-        (λ (v : verdict_here o b i ≡ (Err TooLate)). clash (absent ∙ ap window_there v))
+        (λ (v : verdict_here o b i ≡ Err NoWindow). by_verdict (Err NoWindow) (OfBuild (Window i)) v refl)
+        (λ (v : verdict_here o b i ≡ Err TooLate). clash (absent ∙ ap window_there v))
         (none e)

@@ -76,10 +76,10 @@ module _ (o : Order) (member : Members) (i : ℕ) where
         omega (arith, first.1.response_is, first.2, (sized_of o limits i mine).cost-least)
 
     -- without one it has no window, or is late
-    pub no_response : response_of (verdict o member i) ≡ 0 → (verdict o member i ≡ (Err NoWindow)) ⊎ (verdict o member i ≡ (Err TooLate))
+    pub no_response : response_of (verdict o member i) ≡ 0 → (verdict o member i ≡ Err NoWindow) ⊎ (verdict o member i ≡ Err TooLate)
     no_response none = go (verdict o member i) refl
       where
-        go : (v : Verdict) → verdict o member i ≡ v → (verdict o member i ≡ (Err NoWindow)) ⊎ (verdict o member i ≡ (Err TooLate))
+        go : (v : Verdict) → verdict o member i ≡ v → (verdict o member i ≡ Err NoWindow) ⊎ (verdict o member i ≡ Err TooLate)
         go (Ok worst) e = absurd (omega (arith, passing_some worst e, sym (ap response_of e) ∙ none))
         go (Err NoWindow) e = inl e
         go (Err NoStart) e = absurd (no_start_never o member i limits mine e)
@@ -88,7 +88,7 @@ module _ (o : Order) (member : Members) (i : ℕ) where
     never_both : {A : Type 0} (a b : Verdict) → verdict o member i ≡ a → verdict o member i ≡ b → (a ≡ b → ◌≡◌ {A = ℕ} 0 1) → A
     never_both a b x y differ = absurd (omega (arith, differ (sym x ∙ y)))
 
-    late_out : verdict o member i ≡ (Err TooLate) → InTime o member i → ⊥
+    late_out : verdict o member i ≡ Err TooLate → InTime o member i → ⊥
     late_out e t =
         let p = (verdict_means.passes t.worst).1 (worst_passing t.worst t.worst_is t.at_most) in
         never_both (Err TooLate) (Ok t.worst) e p (λ z. cc z)

@@ -81,7 +81,7 @@ module _ (o : Order) (b : Build) (i : ℕ) (limits : WithinLimits o) (known : i 
   here = record { limits = limits; known = known; its_own = home_member b (home_of b i) i refl }
 
   -- a late member has a legal script that misses
-  late_misses : verdict o member i ≡ (Err TooLate) → NeverMisses o b i → ⊥
+  late_misses : verdict o member i ≡ Err TooLate → NeverMisses o b i → ⊥
   unfolding Finishes
   late_misses late never-misses =
       let shown = too_late_misses o member i here late in

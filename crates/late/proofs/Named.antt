@@ -95,10 +95,10 @@ test_late o b j i offence =
     offence
 
 -- a member with a window that is not in time is late
-late_verdict : (o : Order) (member : Members) (i : ℕ) → WithinLimits o → i < o.tasks → WindowThere o member i → (InTime o member i → ⊥) → verdict o member i ≡ (Err TooLate)
+late_verdict : (o : Order) (member : Members) (i : ℕ) → WithinLimits o → i < o.tasks → WindowThere o member i → (InTime o member i → ⊥) → verdict o member i ≡ Err TooLate
 late_verdict o member i limits known there out-of-time = go (verdict o member i) refl
   where
-    go : (v : Verdict) → verdict o member i ≡ v → verdict o member i ≡ (Err TooLate)
+    go : (v : Verdict) → verdict o member i ≡ v → verdict o member i ≡ Err TooLate
     go (Ok worst) e = let p = ((every_verdict_means o member i limits known).passes worst).0 e in absurd (out-of-time (record { worst = worst; worst_is = passing_worst o member i worst p; at_most = p.in_time_lem }))
     go (Err NoWindow) e = absurd (omega (arith, (every_verdict_means o member i limits known).no_window.0 e there.0 there.1.from there.1.upto, there.1.met))
     go (Err NoStart) e = absurd (no_start_never o member i limits known e)

@@ -26,7 +26,7 @@ module _ (o : Order) (member : Members) (i : ℕ) (limits : WithinLimits o) (min
   Starts = JobStarts (higher_work o member i) (blocking o member i) (task_of o i)
 
   -- "late", over the higher members' work
-  pub late_over : verdict o member i ≡ (Err TooLate) → LateOver (higher_work o member i) (blocking o member i) (task_of o i)
+  pub late_over : verdict o member i ≡ Err TooLate → LateOver (higher_work o member i) (blocking o member i) (task_of o i)
   late_over says =
       let is = (every_verdict_means o member i limits mine).late.0 says in
       let over : (q w : ℕ) → FirstMetAt (start_demand o member i q) 0 w → Starts q w = λ q w starts. subst (λ (f : ℕ → ℕ). FirstMetAt f 0 w) (start_over_lem o member i limits q) starts in

@@ -91,7 +91,7 @@ pub record NamedLate (o : Order) (b : Build) (i : ℕ) : Type 0 where
   pub limits : WithinLimits o
   pub homes : HomesFew o b
   pub known : i < o.tasks
-  pub late : verdict o (besides b i) i ≡ (Err TooLate)
+  pub late : verdict o (besides b i) i ≡ Err TooLate
 
 -- the times are those of the pattern that shows it
 pub record LateTimes (o : Order) (b : Build) (i : ℕ) (times : Times) : Type 0 where

@@ -52,7 +52,7 @@ module _ (rows : List ℕ) (rank : ℕ) (fit : RowsFit rows (rank + 1)) (B : ℕ
   unfolding window_of
   unmet_window unmet = met_never (window_over (asked_by rows rank) B (row_task rows rank)) 1 (none_closes unmet)
 
-  no_window : UnmetBelow (asked_by rows (rank + 1)) B horizon → verdict_in rows rank B ≡ (Err NoWindow)
+  no_window : UnmetBelow (asked_by rows (rank + 1)) B horizon → verdict_in rows rank B ≡ Err NoWindow
   unfolding verdict_over
   no_window unmet = rw (met_never (window_over (asked_by rows rank) B (row_task rows rank)) 1 (none_closes unmet))
 

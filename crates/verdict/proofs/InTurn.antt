@@ -61,14 +61,14 @@ module _ (work : ℕ → ℕ) (grows : Grows work) (B : ℕ) (task : Task) (size
         in_time_lem = omega arith;
       }
 
-  pub never : NeverMet (window_over work B task) 1 → verdict_over work B task ≡ (Err NoWindow)
+  pub never : NeverMet (window_over work B task) 1 → verdict_over work B task ≡ Err NoWindow
   unfolding verdict_over
   never none = rw (met_never (window_over work B task) 1 none)
 
-  pub window_fails : verdict_over work B task ≡ (Err NoWindow) → Fails work B task
+  pub window_fails : verdict_over work B task ≡ Err NoWindow → Fails work B task
   window_fails e = record { passes = ap does_pass e; worst = ap response_of e }
 
-  pub late_fails : verdict_over work B task ≡ (Err TooLate) → Fails work B task
+  pub late_fails : verdict_over work B task ≡ Err TooLate → Fails work B task
   late_fails e = record { passes = ap does_pass e; worst = ap response_of e }
 
   -- open beyond the horizon: no window
@@ -87,7 +87,7 @@ module _ (work : ℕ → ℕ) (grows : Grows work) (B : ℕ) (task : Task) (size
 
   -- a job of the window that does not start in time is enough
   late_job_lem : (L q : ℕ) → FirstMetAt (window_over work B task) 1 L → q * T < L → ((s : ℕ) → s ≤ q * T + task.deadline - C → s < start_over work (job_base work B task q) s) →
-      verdict_over work B task ≡ (Err TooLate)
+      verdict_over work B task ≡ Err TooLate
   late_job_lem L q window inside none =
       in_window L (met_at (window_over work B task) 1 L window)
       ∙ judged_late (response_over work B task) (jobs task L) task.deadline q ((job_at q inside).at + C - q * T) (λ p k. ((job_at p ((within p).1 k)).at + C - p * T, found p ((within p).1 k)))
