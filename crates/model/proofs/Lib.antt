@@ -3,3 +3,4 @@ pub mod Rules
 pub mod Causes
 pub mod Wrote
 pub mod Ranges
+pub mod Contained

@@ -2,9 +2,9 @@
 ghost use Rattle.std.specs.Prelude.{◌≡◌, ◌≤◌};
 ghost use Rattle.model.specs.Limits.{zero_task, empty_order, cost};
 ghost use Rattle.model.specs.Layouts.{order_length};
-ghost use Rattle.model.specs.Rules.{first_broken, task_rules, range_rules};
+ghost use Rattle.model.specs.Rules.{first_broken, given, task_rules, range_rules};
 
-use crate::{OrderCause, Refusal, within};
+use crate::{OrderCause, Refusal};
 
 // A rigid sporadic gang: width m, period T, deadline D, run time C.
 #[derive(Clone, Copy)]
@@ -44,22 +44,22 @@ impl Task {
     }
 
     // 7 to 10 of this task, in turn.
-    pub fn judge(self, processors: u32, number: u16) -> Result<u32, Refusal>
-        ensures { result ≡ first_broken 0 (task_rules processors self number) }
+    pub fn judge(self, processors: u32, number: u16) -> Result<(), Refusal>
+        ensures { result ≡ given tt (first_broken 0 (task_rules processors self number)) }
     {
-        if !within(1, processors, self.width) {
+        if !(1..=processors).contains(&self.width) {
             return Err(Refusal::OfOrder(OrderCause::Width(number)));
         }
-        if !within(1, Task::MOST_PERIOD, self.period) {
+        if !(1..=Task::MOST_PERIOD).contains(&self.period) {
             return Err(Refusal::OfOrder(OrderCause::Period(number)));
         }
-        if !within(1, self.period, self.deadline) {
+        if !(1..=self.period).contains(&self.deadline) {
             return Err(Refusal::OfOrder(OrderCause::Deadline(number)));
         }
-        if !within(1, self.deadline, self.cost()) {
+        if !(1..=self.deadline).contains(&self.cost()) {
             return Err(Refusal::OfOrder(OrderCause::RunTime(number)));
         }
-        Ok(0)
+        Ok(())
     }
 }
 
@@ -101,20 +101,13 @@ impl Order {
     }
 
     // 7 to 10, task by task.
-    pub fn judge(self) -> Result<u32, Refusal>
-        requires { self.tasks ≤ 32 }
-        ensures { result ≡ first_broken 0 (range_rules self) }
+    pub fn judge(&self) -> Result<(), Refusal>
+        requires { self.now.tasks ≤ 32 }
+        ensures { result ≡ given tt (first_broken 0 (range_rules self.now)) }
     {
-        let tasks = self.tasks as usize;
-        let mut i: usize = 0;
-        while i < tasks {
-            let task = self.table[i];
-            let judged = task.judge(self.processors, i as u16);
-            if let Err(cause) = judged {
-                return Err(cause);
-            }
-            i += 1;
+        for i in 0..self.tasks as usize {
+            self.table[i].judge(self.processors, i as u16)?;
         }
-        Ok(0)
+        Ok(())
     }
 }

@@ -1,6 +1,6 @@
 -- Laws of the order's rules: the scan of the spare bits, what an accepted header says, the parts in turn, and that each test tells.
 use Rattle.std.specs.Prelude.{Ok, Err}
-use mathlib.Core.Path.{◌≡◌}
+use mathlib.Core.Path.{◌≡◌, ◌∙◌}
 use mathlib.Core.List.{List}
 use Prim.Native.Nat.{ℕ, ◌+◌, ◌≤◌, ◌<◌}
 use lib.ListN.{length}
@@ -8,15 +8,18 @@ use borrow.Author.Tests.{eq-eqb, ne_eqb, eqb-true}
 use Rattle.bits.specs.Layout.{bytes_in, numbers_at}
 use Rattle.bits.proofs.Field.{field_lt}
 use Rattle.model.specs.declared.answer.Refusal.{Refusal}
+use Rattle.model.specs.declared.order.Task.{Task}
+use Rattle.model.specs.declared.order.Order.{Order}
+use Rattle.model.specs.Kinds.{Answer}
 use Rattle.model.specs.declared.answer.Refusal.TheVariants.{OfOrder}
 use Rattle.model.specs.declared.answer.OrderCause.TheVariants.{TaskSpare}
 use Rattle.model.specs.Limits.{most_tasks, most_processors}
 use Rattle.model.specs.Layouts.{order_header, order_length}
-use Rattle.model.specs.Rules.{Fact, first_broken, AllKept, TestsTell, InRange, equal, range_rules}
-use Rattle.model.proofs.Rules.{AllPass, done_pass, pass_done, pass_kept, pass_on, stop, each_none, each_more, each_stop, scan_at, tell_append, tell_all, tell_one, each_rule, equal_tells, at_most_tells, in_range_tells}
+use Rattle.model.specs.Rules.{Fact, first_broken, given, AllKept, TestsTell, InRange, equal, range_rules}
+use Rattle.model.proofs.Rules.{AllPass, done_pass, pass_done, pass_append, pass_kept, pass_on, stop, given_done, given_refused, refused_given, done_given, each_none, each_more, each_stop, scan_at, tell_append, tell_all, tell_one, each_rule, equal_tells, at_most_tells, in_range_tells}
 use Rattle.model.proofs.Ranges.{range_tells}
 use Rattle.order.specs.declared.Header.{Header}
-use Rattle.order.specs.Order.{header_of, task_spare_at, order_at, header_rules, spare_rules, layout_rules, order_rules, refused_reading, read_order}
+use Rattle.order.specs.Order.{header_of, task_spare_at, order_at, header_rules, spare_rules, layout_rules, order_rules, refused_reading, read_order, table_read, order_read}
 
 -- the scan of the tasks' spare bits
 module _ (s : List ℕ) where
@@ -65,27 +68,64 @@ header_sound size header all =
     let k = pass_kept (header_rules size header) (header_tells size header) all in
     record { long = k.0; version = k.1.0; processors = k.1.1.0; tasks = k.1.1.1.0; size_right = k.1.1.1.1.0; spare = k.1.1.1.1.1.0 }
 
--- the reader's branches
+-- the reader's branches: the header's judgement, the table, and the judgement of the tasks
 module _ (s : List ℕ) where
-  pub layout_stop : {cause : Refusal} → first_broken 0 (header_rules (length s) (header_of s)) ≡ Err cause → first_broken 0 (layout_rules s) ≡ Err cause
-  unfolding layout_rules
-  layout_stop {cause} e = stop 0 (header_rules (length s) (header_of s)) (spare_rules s (header_of s).tasks) cause e
+  abbrev header_answer : Answer
+  header_answer = first_broken 0 (header_rules (length s) (header_of s))
 
-  pub layout_on : {count : ℕ} → first_broken 0 (header_rules (length s) (header_of s)) ≡ Ok count → first_broken 0 (layout_rules s) ≡ first_broken 0 (spare_rules s (header_of s).tasks)
-  unfolding layout_rules
-  layout_on e = pass_on 0 (header_rules (length s) (header_of s)) (spare_rules s (header_of s).tasks) (done_pass 0 (header_rules (length s) (header_of s)) e)
+  abbrev spare_answer : Answer
+  spare_answer = first_broken 0 (spare_rules s (header_of s).tasks)
 
-  pub read_stop : {cause : Refusal} → first_broken 0 (layout_rules s) ≡ Err cause → refused_reading cause ≡ read_order s
-  unfolding read_order order_rules
-  read_stop {cause} e = rw (stop 0 (layout_rules s) (range_rules (order_at s)) cause e)
+  pub header_stops : {refusal : Refusal} → given (tt {0}) header_answer ≡ Err refusal → order_read s ≡ Err refusal
+  unfolding order_rules layout_rules
+  header_stops {refusal} e =
+      let header = stop 0 (header_rules (length s) (header_of s)) (spare_rules s (header_of s).tasks) refusal (refused_given (tt {0}) header_answer e) in
+      given_refused (order_at s) _ (stop 0 (layout_rules s) (range_rules (order_at s)) refusal header)
 
-  pub read_range : {count : ℕ} {cause : Refusal} → first_broken 0 (layout_rules s) ≡ Ok count → first_broken 0 (range_rules (order_at s)) ≡ Err cause → refused_reading cause ≡ read_order s
-  unfolding read_order order_rules
-  read_range e r = rw (pass_on 0 (layout_rules s) (range_rules (order_at s)) (done_pass 0 (layout_rules s) e), r)
+  module _ {unit : Unit {0}} (accepted : given (tt {0}) header_answer ≡ Ok unit) where
+    header_passes : AllPass (header_rules (length s) (header_of s))
+    header_passes = done_pass 0 _ (done_given (tt {0}) header_answer accepted).1
 
-  pub read_done : {count other : ℕ} → first_broken 0 (layout_rules s) ≡ Ok count → first_broken 0 (range_rules (order_at s)) ≡ Ok other → record { answer = Ok 0; order = order_at s } ≡ read_order s
-  unfolding read_order order_rules
-  read_done e r = rw (pass_on 0 (layout_rules s) (range_rules (order_at s)) (done_pass 0 (layout_rules s) e), pass_done 0 (range_rules (order_at s)) (done_pass 0 (range_rules (order_at s)) r))
+    pub tasks_few : (header_of s).tasks ≤ most_tasks
+    tasks_few = (header_sound (length s) (header_of s) header_passes).tasks.1
+
+    pub table_stops : {refusal : Refusal} → table_read s (header_of s).tasks ≡ Err refusal → order_read s ≡ Err refusal
+    unfolding order_rules layout_rules
+    table_stops {refusal} e =
+        let header = pass_on 0 (header_rules (length s) (header_of s)) (spare_rules s (header_of s).tasks) header_passes in
+        let spare = refused_given _ spare_answer e in
+        given_refused (order_at s) _ (stop 0 (layout_rules s) (range_rules (order_at s)) refusal (header ∙ spare))
+
+    module _ {table : List Task} (taken : table_read s (header_of s).tasks ≡ Ok table) where
+      pub table_taken : record { processors = (header_of s).processors; tasks = (header_of s).tasks; table = table } ≡ order_at s
+      unfolding order_at
+      table_taken = rw (done_given _ spare_answer taken).2
+
+      layout_passes : AllPass (layout_rules s)
+      unfolding layout_rules
+      layout_passes = pass_append _ _ header_passes (done_pass 0 _ (done_given _ spare_answer taken).1)
+
+      range_left : first_broken 0 (order_rules s) ≡ first_broken 0 (range_rules (order_at s))
+      unfolding order_rules
+      range_left = pass_on 0 (layout_rules s) (range_rules (order_at s)) layout_passes
+
+      pub range_stops : {refusal : Refusal} → given (tt {0}) (first_broken 0 (range_rules (order_at s))) ≡ Err refusal → order_read s ≡ Err refusal
+      range_stops e = given_refused (order_at s) _ (range_left ∙ refused_given (tt {0}) _ e)
+
+      pub read_done : {judged : Unit {0}} → given (tt {0}) (first_broken 0 (range_rules (order_at s))) ≡ Ok judged → order_read s ≡ Ok (order_at s)
+      read_done e = given_done (order_at s) _ (range_left ∙ (done_given (tt {0}) _ e).1)
+
+  -- the reading of what was read, and of what was refused
+  pub reading_done : {read : Order} → order_read s ≡ Ok read → record { answer = Ok 0; order = read } ≡ read_order s
+  unfolding read_order
+  reading_done e =
+      let done = done_given (order_at s) _ e in
+      let answer = pass_done 0 (order_rules s) (done_pass 0 (order_rules s) done.1) in
+      rw (answer, done.2)
+
+  pub reading_refused : {refusal : Refusal} → order_read s ≡ Err refusal → refused_reading refusal ≡ read_order s
+  unfolding read_order
+  reading_refused e = rw (refused_given (order_at s) _ e)
 
   pub order_tells : TestsTell (order_rules s)
   unfolding order_rules layout_rules

@@ -1,5 +1,5 @@
 -- "Bits on the wire", the order: its records, its bytes, the rules in the order of their numbers, and what a reading gives.
-use Rattle.std.specs.Prelude.{ℕ, ◌*◌, ◌≡◌, List, [], ◌∷◌, ◌++◌, length, get_or, Ok, Err}
+use Rattle.std.specs.Prelude.{ℕ, ◌*◌, ◌≡◌, List, [], ◌∷◌, ◌++◌, length, get_or, Ok, Err, Result}
 use Rattle.laws.specs.Joined.{joined, filled}
 use Rattle.bits.specs.Layout.{bytes_in, record_bytes, numbers_at}
 use Rattle.model.specs.declared.order.Task.{Task}
@@ -11,7 +11,7 @@ use Rattle.model.specs.declared.answer.Refusal.TheVariants.{OfOrder}
 use Rattle.model.specs.declared.answer.OrderCause.TheVariants.{OrderShort, OrderVersion, Processors, Tasks, OrderLength, HeaderSpare, TaskSpare}
 use Rattle.model.specs.Limits.{most_tasks, most_processors, zero_task, task_of, empty_order}
 use Rattle.model.specs.Layouts.{order_header, task_record, order_length}
-use Rattle.model.specs.Rules.{Rule, rule, first_broken, equal, at_most, in_range, range_rules}
+use Rattle.model.specs.Rules.{Rule, rule, first_broken, given, equal, at_most, in_range, range_rules}
 use Rattle.order.specs.declared.Header.{Header}
 
 -- a header as the numbers in its fields: "version 4 (=1), M 7, n 6, spare 7"; and the header that such numbers make
@@ -90,6 +90,14 @@ layout_rules s = header_rules (length s) (header_of s) ++ spare_rules s (header_
 -- "then task by task 7 to 10"
 unfoldable pub order_rules : List ℕ → List Rule
 order_rules s = layout_rules s ++ range_rules (order_at s)
+
+-- the table of so many tasks' records, or 6 of the lowest task that breaks it
+abbrev pub table_read : List ℕ → (tasks : ℕ) → Result (List Task) Refusal
+table_read s tasks = given (filled (task_at s) zero_task most_tasks tasks) (first_broken 0 (spare_rules s tasks))
+
+-- the order that stands in the bytes, or the first refusal
+abbrev pub order_read : List ℕ → Result Order Refusal
+order_read s = given (order_at s) (first_broken 0 (order_rules s))
 
 -- "An order read gives M, n and the table, zero past its n tasks; when it is refused all three are zero."
 abbrev pub refused_reading : Refusal → Reading

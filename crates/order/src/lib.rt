@@ -5,9 +5,9 @@ mod reader;
 
 ghost use Rattle.std.specs.Prelude.{◌≡◌, ◌≤◌, ◌<◌, ◌^◌};
 ghost use Rattle.model.specs.Limits.{most_tasks};
-ghost use Rattle.model.specs.Rules.{first_broken};
-ghost use Rattle.order.specs.Order.{task_start, header_of, header_rules, refused_reading, Reads};
-ghost use Rattle.order.specs.Taken.{TakesTask, TakesTable};
+ghost use Rattle.model.specs.Rules.{first_broken, given};
+ghost use Rattle.order.specs.Order.{task_start, header_of, header_rules, table_read, order_read, Reads};
+ghost use Rattle.order.specs.Taken.{TakesTask};
 
 use model::{Order, OrderCause, Reading, Refusal, Task};
 use reader::take_field;
@@ -27,13 +27,6 @@ pub struct TaskTaken {
     pub task: Task,
     pub spare: u32,
     pub next: usize,
-}
-
-// The tasks' records taken: 6 of the tasks, and the table.
-#[derive(Clone, Copy)]
-pub struct TableTaken {
-    pub spares: Result<u32, Refusal>,
-    pub table: [Task; Order::MOST_TASKS],
 }
 
 // The header, front to back.
@@ -74,37 +67,29 @@ fn read_task(order: &[u8], at: usize) -> TaskTaken
     }
 }
 
-// The records of so many tasks, front to back: 6 of the tasks, the lowest first, and the table, zero past them.
-fn read_table(order: &[u8], tasks: usize) -> TableTaken
+// The records of so many tasks, front to back: the table, zero past them, or 6 of the lowest task that breaks it.
+fn read_table(order: &[u8], tasks: usize) -> Result<[Task; Order::MOST_TASKS], Refusal>
     requires { tasks ≤ most_tasks }
-    ensures { TakesTable order.now tasks result }
+    ensures { result ≡ table_read order.now tasks }
 {
     let mut table = [Task::zero(); Order::MOST_TASKS];
     let mut at = 8 * Order::HEADER_BYTES;
-    let mut i: usize = 0;
-    while i < tasks {
+    for i in 0..tasks {
         let taken = read_task(order, at);
         if taken.spare != 0 {
-            return TableTaken {
-                spares: Err(Refusal::OfOrder(OrderCause::TaskSpare(i as u16))),
-                table,
-            };
+            return Err(Refusal::OfOrder(OrderCause::TaskSpare(i as u16)));
         }
         let task = taken.task;
         table[i] = task;
         at = taken.next;
-        i += 1;
     }
-    TableTaken {
-        spares: Ok(0),
-        table,
-    }
+    Ok(table)
 }
 
 // 1 to 5, and 6 of the header.
-fn judge_header(size: usize, header: Header) -> Result<u32, Refusal>
+fn judge_header(size: usize, header: Header) -> Result<(), Refusal>
     requires { header.tasks < 2 ^ 6 }
-    ensures { result ≡ first_broken 0 (header_rules size header) }
+    ensures { result ≡ given tt (first_broken 0 (header_rules size header)) }
 {
     if size < Order::HEADER_BYTES {
         return Err(Refusal::OfOrder(OrderCause::OrderShort));
@@ -112,10 +97,10 @@ fn judge_header(size: usize, header: Header) -> Result<u32, Refusal>
     if header.version != 1 {
         return Err(Refusal::OfOrder(OrderCause::OrderVersion));
     }
-    if !model::within(1, Order::MOST_PROCESSORS, header.processors) {
+    if !(1..=Order::MOST_PROCESSORS).contains(&header.processors) {
         return Err(Refusal::OfOrder(OrderCause::Processors));
     }
-    if !model::within(1, Order::MOST_TASKS as u32, header.tasks) {
+    if !(1..=Order::MOST_TASKS as u32).contains(&header.tasks) {
         return Err(Refusal::OfOrder(OrderCause::Tasks));
     }
     if size != Order::bytes(header.tasks as usize) {
@@ -124,45 +109,36 @@ fn judge_header(size: usize, header: Header) -> Result<u32, Refusal>
     if header.spare != 0 {
         return Err(Refusal::OfOrder(OrderCause::HeaderSpare));
     }
-    Ok(0)
+    Ok(())
 }
 
-// A refused reading has M, n and the table zero.
-fn refused(cause: Refusal) -> Reading
-    ensures { result ≡ refused_reading cause }
-{
-    Reading {
-        answer: Err(cause),
-        order: Order::empty(),
-    }
-}
-
-// What an order's bytes say: 1 to 6 in turn, then task by task 7 to 10.
-pub fn read_order(order: &[u8]) -> Reading
-    ensures { Reads order.now result }
+// The order that stands in the bytes: 1 to 6 in turn, then task by task 7 to 10.
+pub fn read(order: &[u8]) -> Result<Order, Refusal>
+    ensures { result ≡ order_read order.now }
 {
     let header = read_header(order);
-    let layout = judge_header(order.len(), header);
-    if let Err(cause) = layout {
-        return refused(cause);
-    }
-    let records = read_table(order, header.tasks as usize);
-    let spares = records.spares;
-    if let Err(cause) = spares {
-        return refused(cause);
-    }
-    let table = records.table;
+    judge_header(order.len(), header)?;
     let read = Order {
         processors: header.processors,
         tasks: header.tasks,
-        table,
+        table: read_table(order, header.tasks as usize)?,
     };
-    let judged = read.judge();
-    match judged {
-        Err(cause) => refused(cause),
-        Ok(_) => Reading {
+    read.judge()?;
+    Ok(read)
+}
+
+// What an order's bytes say: M, n and the table, all zero where they are refused.
+pub fn read_order(order: &[u8]) -> Reading
+    ensures { Reads order.now result }
+{
+    match read(order) {
+        Ok(order) => Reading {
             answer: Ok(0),
-            order: read,
+            order,
+        },
+        Err(refusal) => Reading {
+            answer: Err(refusal),
+            order: Order::empty(),
         },
     }
 }

@@ -79,16 +79,13 @@ fn put_if_room(order: Order, out: &mut [u8]) -> Result<u32, Refusal>
 pub fn write(order: Order, out: &mut [u8]) -> Result<u32, Refusal>
     ensures { WritesOrder order out.old result out.new }
 {
-    if !model::within(1, Order::MOST_PROCESSORS, order.processors) {
+    if !(1..=Order::MOST_PROCESSORS).contains(&order.processors) {
         return Err(Refusal::OfOrder(OrderCause::Processors));
     }
-    if !model::within(1, Order::MOST_TASKS as u32, order.tasks) {
+    if !(1..=Order::MOST_TASKS as u32).contains(&order.tasks) {
         return Err(Refusal::OfOrder(OrderCause::Tasks));
     }
-    let judged = order.judge();
-    if let Err(cause) = judged {
-        return Err(cause);
-    }
+    order.judge()?;
     put_if_room(order, out)
 }
 

@@ -1,4 +1,3 @@
-use Prim.Native.Nat.{◌≤◌, ◌-◌}
 use mathlib.Core.Path.{◌≡◌}
 use Rattle.laws.specs.Joined.{filled}
 use Rattle.model.specs.Limits.{most_tasks, zero_task}
@@ -7,7 +6,4 @@ use Rattle.order.specs.Order.{task_start, task_at, spare_rules}
 use Rattle.order.proofs.read_table.Given as goal
 
 abbrev pub invariant-loop-i : goal.invariant-loop-i
-invariant-loop-i l = (l.i ≤ l.tasks) × (l.at ≡ task_start l.i) × AllPass (spare_rules l.order l.i) × (l.table ≡ filled (task_at l.order) zero_task most_tasks l.i)
-
-abbrev pub decreases-loop-i : goal.decreases-loop-i
-decreases-loop-i l = l.tasks - l.i
+invariant-loop-i l = (l.at ≡ task_start l.i) × AllPass (spare_rules l.order l.i) × (l.table ≡ filled (task_at l.order) zero_task most_tasks l.i)
