@@ -1,11 +1,12 @@
 -- What the reader takes of a record, what its judge is told beside it, and what judging a script gives.
-use Rattle.std.specs.Prelude.{ℕ, zero, suc, ◌+◌, ◌*◌, ◌<◌, ◌≡◌, List, length, get_or, Ok}
+use Rattle.std.specs.Prelude.{ℕ, zero, suc, ◌+◌, ◌*◌, ◌<◌, ◌≡◌, List, length, get_or, Ok, Result}
 use Rattle.laws.specs.Joined.{joined}
 use Rattle.model.specs.declared.order.Order.{Order}
 use Rattle.model.specs.declared.build.Release.{Release}
 use Rattle.model.specs.Kinds.{Answer}
+use Rattle.model.specs.declared.answer.Refusal.{Refusal}
 use Rattle.model.specs.Limits.{most_records}
-use Rattle.model.specs.Rules.{first_broken}
+use Rattle.model.specs.Rules.{first_broken, given}
 use Rattle.machine.specs.Pattern.{run_of}
 use Rattle.script.specs.declared.ReleaseTaken.{ReleaseTaken}
 use Rattle.script.specs.Script.{release_at, spare_at, records_in, script_of, earliest, release_rules, script_rules}
@@ -34,8 +35,8 @@ pub record ToldOf (o : Order) (s : List ℕ) (i : ℕ) (taken : ReleaseTaken) (t
   pub from_is : from ≡ earliest o (release_at s) (release_at s i).task i
 
 -- 41 to 45 of record i, of every order and script of which it was told so
-abbrev pub JudgesRelease : ReleaseTaken → (tasks most least from i : ℕ) → Answer → Type 0
-JudgesRelease taken tasks most least from i answer = (o : Order) (s : List ℕ) → ToldOf o s i taken tasks most least from → answer ≡ first_broken 0 (release_rules o s i)
+abbrev pub JudgesRelease : ReleaseTaken → (tasks most least from i : ℕ) → Result Unit Refusal → Type 0
+JudgesRelease taken tasks most least from i answer = (o : Order) (s : List ℕ) → ToldOf o s i taken tasks most least from → answer ≡ given tt (first_broken 0 (release_rules o s i))
 
 -- the numbers of the records below so many stand in the arrays
 pub record HeldBelow (s : List ℕ) (records : ℕ) (keys durations : List ℕ) : Type 0 where
@@ -44,9 +45,9 @@ pub record HeldBelow (s : List ℕ) (records : ℕ) (keys durations : List ℕ) 
   pub durations_are : (x : ℕ) → x < records → get_or durations x 0 ≡ (release_at s x).duration
 
 -- record by record 41 to 45; where all hold, the numbers of these records stand in the arrays
-pub record JudgesRecords (o : Order) (s : List ℕ) (records : ℕ) (keys durations : List ℕ) (answer : Answer) : Type 0 where
-  pub answers : answer ≡ first_broken records (joined (release_rules o s) records)
-  pub holds : (count : ℕ) → answer ≡ Ok count → HeldBelow s records keys durations
+pub record JudgesRecords (o : Order) (s : List ℕ) (records : ℕ) (keys durations : List ℕ) (answer : Result Unit Refusal) : Type 0 where
+  pub answers : answer ≡ given tt (first_broken records (joined (release_rules o s) records))
+  pub holds : answer ≡ Ok tt → HeldBelow s records keys durations
 
 -- 40, 46, then 41 to 45; where all hold, the script's numbers stand in the arrays
 pub record JudgesScript (o : Order) (s : List ℕ) (places : ℕ) (keys durations : List ℕ) (answer : Answer) : Type 0 where

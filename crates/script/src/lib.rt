@@ -19,18 +19,14 @@ pub struct ReleaseTaken {
     pub spare: u64,
 }
 
-fn byte(x: u8) -> u64
-    ensures { (result ≡ x) × (result < 256) }
-{
-    x as u64
-}
-
 // Three bytes as one number: no test of the end, so that a record costs two reads.
 fn three_bytes(script: &[u8], from: usize) -> u64
     requires { from + 3 ≤ length script.now }
     ensures { (result ≡ field script.now (8 * from) 24) × (result < 16_777_216) }
 {
-    byte(script[from]) * 65_536 + byte(script[from + 1]) * 256 + byte(script[from + 2])
+    u64::from(script[from]) * 65_536
+        + u64::from(script[from + 1]) * 256
+        + u64::from(script[from + 2])
 }
 
 // tick 20, task 5, length 20, spare 3
@@ -55,10 +51,10 @@ fn judge_release(
     least: u32,
     from: u32,
     i: u16,
-) -> Result<u32, Refusal>
+) -> Result<(), Refusal>
     ensures { JudgesRelease taken tasks most least from i result }
 {
-    let lasts = model::within(1, most, taken.duration);
+    let lasts = (1..=most).contains(&taken.duration);
     let apart = from <= taken.key / 32;
     if taken.spare != 0 {
         return Err(Refusal::OfScript(ScriptCause::RecordSpare(i)));
@@ -75,7 +71,7 @@ fn judge_release(
     if !apart {
         return Err(Refusal::OfScript(ScriptCause::ReleaseGap(i)));
     }
-    Ok(0)
+    Ok(())
 }
 
 // 41 to 45, record by record; earliest holds the first tick at which each task may be released again.
@@ -85,42 +81,35 @@ fn judge_records(
     records: usize,
     keys: &mut [u32; Release::MOST],
     durations: &mut [u32; Release::MOST],
-) -> Result<u32, Refusal>
-    requires { WithinLimits order × (records ≤ most_records) × (script_length 1 records ≤ length script.now) × (length keys.old ≡ most_records) × (length durations.old ≡ most_records) }
+) -> Result<(), Refusal>
+    requires limits { WithinLimits order }
+    requires few { records ≤ most_records }
+    requires there { script_length 1 records ≤ length script.now }
+    requires key_places { length keys.old ≡ most_records }
+    requires duration_places { length durations.old ≡ most_records }
     ensures { JudgesRecords order script.now records keys.new durations.new result }
 {
-    let table = order.table;
-    let tasks = order.tasks;
     let mut earliest = [0u32; Order::MOST_TASKS];
     let mut least: u32 = 0;
-    let mut i: usize = 0;
-    while i < records {
+    for i in 0..records {
         let taken = take_release(script, i);
         let key = taken.key;
         let k = (key % 32) as usize;
-        let task = table[k];
-        let judged = judge_release(taken, tasks, task.run, least, earliest[k], i as u16);
-        if let Err(cause) = judged {
-            return Err(cause);
-        }
+        let task = order.table[k];
+        judge_release(taken, order.tasks, task.run, least, earliest[k], i as u16)?;
         keys[i] = key;
         durations[i] = taken.duration;
         earliest[k] = key / 32 + task.period;
         least = key + 1;
-        i += 1;
     }
-    Ok(records as u32)
+    Ok(())
 }
 
 // Whether so many bytes are whole records, and few enough.
 fn whole_records(size: usize) -> bool
     ensures { result ≡ (eqb (size % bytes_in (release_record 1)) 0 && leb size (script_length 1 most_records)) }
 {
-    if size % Release::BYTES == 0 {
-        size <= Release::MOST_BYTES
-    } else {
-        false
-    }
+    size % Release::BYTES == 0 && size <= Release::MOST_BYTES
 }
 
 // 40, 46, then record by record 41 to 45; done with the number of records.
@@ -131,7 +120,9 @@ pub fn judge_script(
     keys: &mut [u32; Release::MOST],
     durations: &mut [u32; Release::MOST],
 ) -> Result<u32, Refusal>
-    requires { WithinLimits order × (length keys.old ≡ most_records) × (length durations.old ≡ most_records) }
+    requires limits { WithinLimits order }
+    requires key_places { length keys.old ≡ most_records }
+    requires duration_places { length durations.old ≡ most_records }
     ensures { JudgesScript order script.now places keys.new durations.new result }
 {
     let size = script.len();
@@ -144,5 +135,6 @@ pub fn judge_script(
     if !room {
         return Err(Refusal::OfScript(ScriptCause::FinishPlaces));
     }
-    judge_records(order, script, records, keys, durations)
+    judge_records(order, script, records, keys, durations)?;
+    Ok(records as u32)
 }

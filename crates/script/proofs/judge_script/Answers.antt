@@ -1,9 +1,11 @@
-use Prim.Native.Nat.{◌*◌, ◌/◌, ◌≤◌}
 use mathlib.Core.Path.{sym, ◌∙◌}
+use Prim.Native.Nat.{◌/◌, ◌≤◌}
 use native.Mathlib.Omega.{arith}
 use borrow.Author.Tests.{le-leb, lt-leb}
 use lib.ListN.{length}
-use Rattle.script.specs.Script.{records_in}
+use Rattle.laws.specs.Joined.{joined}
+use Rattle.model.proofs.Rules.{refused_given, done_given, pass_done, done_pass, handed_on}
+use Rattle.script.specs.Script.{release_rules, records_in}
 use Rattle.script.proofs.Rules.{not_whole, too_few_places, on_to_records, whole_few}
 use Rattle.script.proofs.Held.{refused, held_all}
 use Rattle.script.proofs.judge_script.Goals as goal
@@ -19,13 +21,15 @@ returns-then-not-room c =
     let a = c.args in
     refused (too_few_places _ a.order a.script.now a.places (sym c.whole_records-whole.ensures ∙ c.if-not-whole.false) (lt-leb _ _ c.if-not-room.true))
 
-pub judge_records-requires : goal.judge_records-requires
-judge_records-requires c =
-    let s = c.args.script.now in
-    let p = c.requires in
-    let few : length s / 6 ≤ 1024 = omega (arith, whole_few s (sym c.whole_records-whole.ensures ∙ c.if-not-whole.false)) in
-    let inside : 6 * (length s / 6) ≤ length s = omega arith in
-    (p.0, few, inside, p.1, p.2)
+-- whole records with room for each: the rest is for the records to say
+pub returns-in_err-judge_records : goal.returns-in_err-judge_records
+unfolding records_in
+returns-in_err-judge_records c =
+    let a = c.args in
+    let s = a.script.now in
+    let on = on_to_records (records_in s) a.order s a.places (sym c.whole_records-whole.ensures ∙ c.if-not-whole.false) (le-leb _ _ c.if-not-room.false) in
+    let here = refused_given tt _ (sym c.judge_records.ensures.answers ∙ c.in_err-judge_records.was) in
+    rw (handed_on c.from_residual.result c.from_residual.ensures.1) (refused (on ∙ here))
 
 pub returns : goal.returns
 unfolding records_in
@@ -33,9 +37,11 @@ returns c =
     let a = c.args in
     let s = a.script.now in
     let whole = sym c.whole_records-whole.ensures ∙ c.if-not-whole.false in
-    let few = whole_few s whole in
+    let few : length s / 6 ≤ 1024 = omega (arith, whole_few s whole) in
     let on = on_to_records (records_in s) a.order s a.places whole (le-leb _ _ c.if-not-room.false) in
+    let rules = joined (release_rules a.order s) (records_in s) in
+    let done = done_given tt _ (sym c.judge_records.ensures.answers ∙ c.in_ok-judge_records.was) in
     record {
-      answer_is = c.judge_records.ensures.answers ∙ sym on;
-      numbers_held = λ count d. held_all s _ _ (omega arith) (c.judge_records.ensures.holds count d);
+      answer_is = sym (on ∙ pass_done (records_in s) rules (done_pass (records_in s) rules done.1));
+      numbers_held = λ count d. held_all s _ _ few (c.judge_records.ensures.holds c.in_ok-judge_records.was);
     }

@@ -1,3 +1,4 @@
+use borrow.Author.Rules.{rules}
 use native.Mathlib.Omega.{arith}
 use Rattle.script.proofs.Numbers.{three_bytes_are}
 use Rattle.script.proofs.three_bytes.Goals as goal
@@ -6,4 +7,4 @@ pub returns : goal.returns
 returns c =
     let a = c.args in
     let three = three_bytes_are a.script.now a.from (omega arith) (omega arith) (omega arith) in
-    (omega arith, omega arith)
+    search rules
