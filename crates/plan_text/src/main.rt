@@ -22,8 +22,7 @@ fn show_too_long(rt: &impl Eprint) -> io::Result<()> {
 
 fn plan_typed(rt: &(impl Print + Eprint), processors: u32, text: &[u8]) -> io::Result<()> {
     let mut order = [0u8; Order::MOST_BYTES];
-    let answer = text::read_text(processors, text, &mut order);
-    match answer {
+    match text::read_text(processors, text, &mut order) {
         Ok(size) => show::show_plan(rt, &order[..size as usize]),
         Err(cause) => show::show_refusal(rt, cause),
     }
@@ -54,10 +53,7 @@ fn lacks_argument(rt: &impl Env, number: usize) -> bool {
 // M is digits to its end; an argument that is missing or too long has no bytes here.
 fn main(rt: HostRuntime) -> io::Result<()> {
     let mut argument = [0u8; MOST_ARGUMENT];
-    let size = match rt.arg(1, &mut argument) {
-        Ok(size) => size,
-        Err(_) => 0,
-    };
+    let size = rt.arg(1, &mut argument).unwrap_or(0);
     let digits = typed::take_digits(&argument[..size], 0);
     if lacks_argument(&rt, 2) && size > 0 && digits.next == size {
         plan_input(&rt, &mut rt.stdin(), digits.value)

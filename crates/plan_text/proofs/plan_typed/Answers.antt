@@ -1,4 +1,4 @@
-use Rattle.std.proofs.Common.{sym, ◌∙◌}
+use Rattle.std.proofs.Common.{sym}
 use native.Mathlib.Omega.{arith}
 use lib.Seq.{length-take-le}
 use Rattle.text_facts.proofs.Read.{read_room}
@@ -6,11 +6,7 @@ use Rattle.plan_text.proofs.plan_typed.Goals as goal
 
 -- the order that was read lies within its room
 pub slice_bounds-order-end : goal.slice_bounds-order-end
-slice_bounds-order-end g c =
-    let read = c.read_text-answer in
-    omega (arith, read_room _ _ _ _ (sym read.ensures.answered ∙ c.in-Ok.is), read.auto.out)
+slice_bounds-order-end g c = omega (arith, read_room _ _ _ _ (sym c.in-Ok.ensures.answered), c.read_text.auto.out)
 
 pub slice_bounds-show_plan-end : goal.slice_bounds-show_plan-end
-slice_bounds-show_plan-end g c =
-    let read = c.read_text-answer in
-    sym (length-take-le _ _ (omega (arith, read_room _ _ _ _ (sym read.ensures.answered ∙ c.in-Ok.is), read.auto.out)))
+slice_bounds-show_plan-end g c = sym (length-take-le _ _ (omega (arith, read_room _ _ _ _ (sym c.in-Ok.ensures.answered), c.read_text.auto.out)))
