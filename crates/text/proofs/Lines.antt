@@ -1,5 +1,5 @@
 -- Line i of a text, taken from the place where the i lines before it end.
-use Rattle.std.specs.Prelude.{Err}
+use Rattle.std.specs.Prelude.{Err, Option, Some, None, is_some}
 use mathlib.Core.Path.{◌≡◌, refl, sym, ap, ◌∙◌}
 use mathlib.Core.Bool.{Bool, true, false}
 use mathlib.Core.List.{List}
@@ -8,6 +8,7 @@ use native.Mathlib.Omega.{arith}
 use native.Mathlib.Decide.{dec_le}
 use native.Mathlib.Numerals.{add-one}
 use lib.Dec.{leb, ltb}
+use mir.Val.{bool_byte}
 use lib.ListN.{length, drop, length-drop}
 use lib.Seq.{drop-drop}
 use borrow.Author.Tests.{le-leb, lt-leb, lt-ltb, le-ltb, ltb-true}
@@ -61,7 +62,7 @@ capped_exact t e =
     rw (exact t.width f.width, exact t.period f.period, exact t.deadline f.deadline, exact t.run f.run) in
     same
 
-module _ (text : List ℕ) (i at : ℕ) (begins : LineBegins text i at) (line : LineTaken) (taken : TakesLine (drop at text) at line) where
+module _ (text : List ℕ) (i at : ℕ) (begins : LineBegins text i at) (found : Option LineTaken) (taken : TakesLine (drop at text) at found) where
   line_is : first_line (drop at text) ≡ typed_line text i
   unfolding first_line typed_line
   line_is = ap (up_to is_line_feed) begins.rest
@@ -78,13 +79,19 @@ module _ (text : List ℕ) (i at : ℕ) (begins : LineBegins text i at) (line : 
       go (no some) = lt-ltb 0 (count is_line_feed (drop at text)) (omega (arith, left, some)) ∙ sym (lt-ltb i (finished_lines text) (omega (arith, some)))
 
   -- 50 of line i
-  pub shaped_told : line.shaped ≡ (shaped text i).test
+  pub shaped_told : is_some found ≡ (shaped text i).test
   unfolding shaped
   shaped_told = taken.told ∙ rw (finished_is, line_is)
 
-  module _ (good : line.shaped ≡ true) where
+  pub unshaped : found ≡ None → (shaped text i).test ≡ false
+  unshaped none = sym shaped_told ∙ ap is_some none
+
+  module _ (line : LineTaken) (good : found ≡ Some line) where
+    pub shape_told : (shaped text i).test ≡ true
+    shape_told = sym shaped_told ∙ ap is_some good
+
     task_told : line.task ≡ capped_task (typed_task text i)
-    task_told = taken.typed good ∙ ap (λ (l : List ℕ). capped_task (line_task l)) line_is
+    task_told = taken.typed line good ∙ ap (λ (l : List ℕ). capped_task (line_task l)) line_is
 
     -- 51 of line i
     pub fits_told : numbers_fit line.task ≡ (typed_fits text i).test
@@ -99,11 +106,11 @@ module _ (text : List ℕ) (i at : ℕ) (begins : LineBegins text i at) (line : 
     pub next_begins : LineBegins text (i + 1) line.next
     unfolding first_line is_finished
     next_begins =
-        let feeds : 0 < count is_line_feed (drop at text) = ltb-true 0 (count is_line_feed (drop at text)) (both _ (is_line (first_line (drop at text))) (sym taken.told ∙ good)).0 in
+        let feeds : 0 < count is_line_feed (drop at text) = ltb-true 0 (count is_line_feed (drop at text)) (both _ (is_line (first_line (drop at text))) (sym taken.told ∙ ap is_some good)).0 in
         record {
-          inside = omega (arith, taken.next_at good, up_to_ends is_line_feed (drop at text) feeds, length-drop at text);
+          inside = omega (arith, taken.next_at line good, up_to_ends is_line_feed (drop at text) feeds, length-drop at text);
           rest =
-              ap (λ (n : ℕ). drop n text) (taken.next_at good) ∙ sym (drop-drop (suc (length (first_line (drop at text)))) at text)
+              ap (λ (n : ℕ). drop n text) (taken.next_at line good) ∙ sym (drop-drop (suc (length (first_line (drop at text)))) at text)
               ∙ ap (behind is_line_feed) begins.rest ∙ sym (behind_all_more is_line_feed i text) ∙ ap (λ (n : ℕ). behind_all is_line_feed n text) (sym (add-one i));
         }
 
@@ -120,6 +127,11 @@ module _ (text : List ℕ) (i : ℕ) where
   pub number_stops : (count : ℕ) → (shaped text i).test ≡ true → (typed_fits text i).test ≡ false → first_broken count (line_rules text i) ≡ Err (OfText (LineNumber i))
   unfolding line_rules first_broken
   number_stops count shape fit = rw (shape, fit)
+
+-- a test as the number that it is taken as
+pub byte_is : (test : Bool) → bool_byte test ≡ only test 1
+byte_is true = refl
+byte_is false = refl
 
 -- the lines, an unfinished last one counted
 pub count_is : (text : List ℕ) (lines : ℕ) (unfinished : Bool) → lines ≡ finished_lines text → is_unfinished text ≡ unfinished → line_count text ≡ lines + only unfinished 1

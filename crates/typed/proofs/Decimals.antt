@@ -12,10 +12,12 @@ use Rattle.laws.proofs.Choice.{within_true}
 use Rattle.laws.proofs.Every.{clash}
 use Rattle.form.specs.Bytes.{is_mark}
 use Rattle.form.specs.Numbers.{digits_of, value_of, capped}
+use Rattle.std.specs.Prelude.{Some, None}
 use Rattle.typed.specs.declared.DigitsTaken.{DigitsTaken}
 use Rattle.typed.specs.Taken.{TakesDigits, decimals_good, decimals_length, decimals_value, TakesDecimals}
 use Rattle.form.proofs.Digits.{digits_are}
 use Rattle.typed.proofs.Digits.{value_below}
+use Rattle.typed.proofs.Found.{of_some, of_none}
 
 module _ (text : List ℕ) (at : ℕ) where
   abbrev typed : List ℕ
@@ -25,11 +27,11 @@ module _ (text : List ℕ) (at : ℕ) where
   first_is = get_or-drop at text 0 0 ∙ ap (λ (i : ℕ). get_or text i 0) (omega arith)
 
   -- no comma or point
-  pub none_taken : is_mark (get_or text at 0) ≡ false → TakesDecimals typed at (record { good = true; value = 0; next = at })
+  pub none_taken : is_mark (get_or text at 0) ≡ false → TakesDecimals typed at (Some (record { value = 0; next = at }))
   unfolding decimals_good decimals_length decimals_value
   none_taken m =
       let marked : is_mark (get_or typed 0 0) ≡ false = ap is_mark first_is ∙ m in
-      record { told = rw marked; valued = λ h. rw marked; few = omega arith; next_at = rw marked (omega arith) }
+      record { told = rw marked; valued = of_some _ _ (rw marked); few = of_some _ _ (omega arith); next_at = of_some _ _ (rw marked (omega arith)) }
 
   -- a comma or point stands within the text
   pub mark_within : is_mark (get_or text at 0) ≡ true → at + 1 ≤ length text
@@ -55,12 +57,12 @@ module _ (text : List ℕ) (at : ℕ) where
     value_is : digits.value ≡ capped (value_of decimals)
     value_is = taken.0 ∙ ap (λ (s : List ℕ). capped (value_of s)) same
 
-    -- so many digits behind it: what is taken
-    pub decimals_taken : (good : Bool) (value : ℕ) → good ≡ within 1 2 (length decimals) → (good ≡ true → value ≡ value_of decimals * 10 ^ (2 - length decimals)) → value ≤ 99
-        → TakesDecimals typed at (record { good = good; value = value; next = digits.next })
+    -- one digit or two behind it: what is taken
+    some_taken : (value : ℕ) → within 1 2 (length decimals) ≡ true → value ≡ value_of decimals * 10 ^ (2 - length decimals) → value ≤ 99
+        → TakesDecimals typed at (Some (record { value = value; next = digits.next }))
     unfolding decimals_good decimals_length decimals_value
-    decimals_taken good value told valued few =
-        record { told = told ∙ rw marked; valued = λ h. valued h ∙ rw marked; few = few; next_at = rw marked (omega (arith, places_are)) }
+    some_taken value told valued few =
+        record { told = sym told ∙ rw marked; valued = of_some _ _ (valued ∙ rw marked); few = of_some _ _ few; next_at = of_some _ _ (rw marked (omega (arith, places_are))) }
 
     -- few digits are worth what they are
     module _ (n : ℕ) (many : length decimals ≡ n) (few : 10 ^ n ≤ 100) where
@@ -70,18 +72,20 @@ module _ (text : List ℕ) (at : ℕ) where
       exact : digits.value ≡ value_of decimals
       exact = value_is ∙ omega (arith, below, few)
 
-    pub one_taken : digits.next - (at + 1) ≡ 1 → TakesDecimals typed at (record { good = true; value = digits.value * 10; next = digits.next })
+    pub one_taken : digits.next - (at + 1) ≡ 1 → TakesDecimals typed at (Some (record { value = digits.value * 10; next = digits.next }))
     one_taken one =
         let many : length decimals ≡ 1 = omega (arith, places_are, one) in
-        decimals_taken true (digits.value * 10) (rw many) (λ h. rw (many, exact 1 many (omega arith))) (omega (arith, exact 1 many (omega arith), below 1 many (omega arith)))
+        some_taken (digits.value * 10) (rw many) (rw (many, exact 1 many (omega arith))) (omega (arith, exact 1 many (omega arith), below 1 many (omega arith)))
 
-    pub two_taken : digits.next - (at + 1) ≡ 2 → TakesDecimals typed at (record { good = true; value = digits.value; next = digits.next })
+    pub two_taken : digits.next - (at + 1) ≡ 2 → TakesDecimals typed at (Some (record { value = digits.value; next = digits.next }))
     two_taken two =
         let many : length decimals ≡ 2 = omega (arith, places_are, two) in
-        decimals_taken true digits.value (rw many) (λ h. rw (many, exact 2 many (omega arith)) (omega arith)) (omega (arith, exact 2 many (omega arith), below 2 many (omega arith)))
+        some_taken digits.value (rw many) (rw (many, exact 2 many (omega arith)) (omega arith)) (omega (arith, exact 2 many (omega arith), below 2 many (omega arith)))
 
-    pub more_taken : (digits.next - (at + 1) ≡ 1 → ⊥) → (digits.next - (at + 1) ≡ 2 → ⊥) → TakesDecimals typed at (record { good = false; value = 0; next = digits.next })
-    more_taken not-one not-two = decimals_taken false 0 (sym (go (within 1 2 (length decimals)) refl)) (λ h. clash h) (omega arith)
+    -- none or more: nothing
+    pub none_behind : (digits.next - (at + 1) ≡ 1 → ⊥) → (digits.next - (at + 1) ≡ 2 → ⊥) → TakesDecimals typed at None
+    unfolding decimals_good
+    none_behind not-one not-two = record { told = sym (rw marked (go (within 1 2 (length decimals)) refl)); valued = of_none _; few = of_none _; next_at = of_none _ }
       where
         go : (x : Bool) → within 1 2 (length decimals) ≡ x → x ≡ false
         go true h =

@@ -1,3 +1,4 @@
+pub mod Found
 pub mod ByKind
 pub mod Digits
 pub mod Decimals

@@ -2,22 +2,26 @@
 use mathlib.Core.Path.{◌≡◌, sym, ap, ◌∙◌, subst}
 use mathlib.Core.Bool.{Bool, true, false}
 use mathlib.Core.List.{List}
-use Prim.Native.Nat.{ℕ, zero, suc, ◌+◌, ◌≤◌}
+use Prim.Native.Nat.{ℕ, zero, suc, ◌+◌, ◌≤◌, ◌<◌}
 use lib.Dec.{eqb, ltb}
 use borrow.Author.Tests.{lt-ltb, le-ltb}
 use lib.ListN.{length, get_or, drop, length-drop}
 use lib.Seq.{get_or-drop}
 use native.Mathlib.Omega.{arith}
+use native.Mathlib.Decide.{dec_le}
 use Rattle.laws.specs.Choice.{pick}
-use Rattle.laws.proofs.Choice.{both}
+use Rattle.laws.proofs.Choice.{pick-never}
 use Rattle.form.specs.Bytes.{semicolon, IsDigit, IsMark, is_end}
 use Rattle.form.specs.Parts.{count}
 use Rattle.form.specs.Numbers.{digits_of, Digits, value_of, is_number, capped}
 use Rattle.form.proofs.Bytes.{digit_no_semicolon, digit_no_line_feed, mark_no_semicolon, mark_no_line_feed}
 use Rattle.form.proofs.Numbers.{digits_none}
+use Rattle.std.specs.Prelude.{Some, None}
 use Rattle.typed.specs.declared.DigitsTaken.{DigitsTaken}
+use Rattle.typed.specs.declared.FieldTaken.{FieldTaken}
 use Rattle.typed.specs.Taken.{TakesDigits, field_of, ends_at, TakesFormField}
 use Rattle.form.proofs.Digits.{length_digits, digits_are, digits_cut, digits_over}
+use Rattle.typed.proofs.Found.{of_some, of_none}
 use Rattle.typed.proofs.Fields.{field_told, field_is}
 use Rattle.typed.proofs.Shapes.{not_number, number_is}
 
@@ -61,22 +65,42 @@ pub some_taken : (at n : ℕ) → ltb at (at + n) ≡ ltb 0 n
 some_taken at zero = le-ltb at (at + 0) (omega arith) ∙ sym (le-ltb 0 0 (omega arith))
 some_taken at (suc n) = lt-ltb at (at + suc n) (omega arith) ∙ sym (lt-ltb 0 (suc n) (omega arith))
 
-module _ (text : List ℕ) (at : ℕ) (digits : DigitsTaken) (taken : TakesDigits (drop at text) at digits) (good : Bool) where
+pub some_digits : (at next : ℕ) → at ≤ next → (at ≡ next → ⊥) → ltb at next ≡ true
+some_digits at next below some = lt-ltb at next (go (dec_le next at))
+  where
+    go : Dec (next ≤ at) → at < next
+    go (yes past) = absurd (some (omega (arith, past, below)))
+    go (no further) = omega (arith, further)
+
+module _ (text : List ℕ) (at : ℕ) (digits : DigitsTaken) (taken : TakesDigits (drop at text) at digits) where
   abbrev typed : List ℕ
   typed = drop at text
 
   behind_digits_lem : ends_at false text digits.next ≡ ends_at false (drop (length (digits_of typed)) typed) 0
   behind_digits_lem = ap (ends_at false text) taken.1 ∙ ap (λ (b : ℕ). eqb b semicolon) (sym (rest_at text at (length (digits_of typed))))
 
+  is_told : pick (ends_at false text digits.next) (ltb at digits.next) false ≡ pick (ends_at false typed (length (field_of typed))) (is_number (field_of typed)) false
+  is_told = rw (behind_digits_lem, taken.1, some_taken at (length (digits_of typed))) (sym (number_told typed))
+
+  not_taken : pick (ends_at false text digits.next) (ltb at digits.next) false ≡ false → TakesFormField is_number value_of false typed at None
+  not_taken bad = record { told = sym bad ∙ is_told; valued = of_none _; next_at = of_none _ }
+
+  -- no number is taken where there is no digit, nor where its end is none
+  pub no_digit : at ≡ digits.next → TakesFormField is_number value_of false typed at None
+  no_digit none = not_taken (ap (λ (x : Bool). pick (ends_at false text digits.next) x false) (le-ltb at digits.next (omega (arith, none))) ∙ pick-never (ends_at false text digits.next))
+
+  pub no_number_end : ends_at false text digits.next ≡ false → TakesFormField is_number value_of false typed at None
+  no_number_end bad = not_taken (rw bad)
+
   -- a number is taken
-  pub number_taken : good ≡ pick (ends_at false text digits.next) (ltb at digits.next) false
-      → TakesFormField is_number value_of false typed at (record { good = good; value = digits.value; next = digits.next + 1 })
-  number_taken by_digits =
+  pub number_taken : ends_at false text digits.next ≡ true → (at ≡ digits.next → ⊥)
+      → TakesFormField is_number value_of false typed at (Some (record { value = digits.value; next = digits.next + 1 }))
+  number_taken ended some =
       record {
-        told = by_digits ∙ rw (behind_digits_lem, taken.1, some_taken at (length (digits_of typed))) (sym (number_told typed));
-        valued = λ h. taken.0 ∙ ap (λ (field : List ℕ). capped (value_of field)) (sym (field h));
-        next_at = λ h. let e = ap length (field h) in omega (arith, taken.1, e);
+        told = sym (rw ended (some_digits at digits.next (omega (arith, taken.1)) some)) ∙ is_told;
+        valued = of_some (λ (taken : FieldTaken). taken.value ≡ capped (value_of (field_of typed))) _ (taken.0 ∙ ap (λ (field : List ℕ). capped (value_of field)) (sym field));
+        next_at = of_some (λ (taken : FieldTaken). taken.next ≡ at + suc (length (field_of typed))) _ (let e = ap length field in omega (arith, taken.1, e));
       }
     where
-      field : good ≡ true → field_of typed ≡ digits_of typed
-      field h = number_field typed (sym behind_digits_lem ∙ (both _ _ (sym by_digits ∙ h)).0)
+      field : field_of typed ≡ digits_of typed
+      field = number_field typed (sym behind_digits_lem ∙ ended)

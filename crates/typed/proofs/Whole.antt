@@ -2,15 +2,16 @@
 use mathlib.Core.Path.{◌≡◌, refl, sym, ap, ◌∙◌, subst}
 use mathlib.Core.Bool.{Bool, true, false}
 use mathlib.Core.List.{List, ◌∷◌, ◌++◌, append_assoc}
-use Prim.Native.Nat.{ℕ, ◌+◌, ◌*◌, ◌≤◌, ◌<◌}
+use Prim.Native.Nat.{ℕ, suc, ◌+◌, ◌*◌, ◌≤◌, ◌<◌}
 use native.Mathlib.Omega.{arith}
 use native.Mathlib.Nat.{mul_comm}
 use native.Mathlib.Decide.{dec_le}
 use lib.Dec.{eqb, ltb}
+use borrow.Author.Tests.{le-ltb}
 use lib.ListN.{length, get_or, drop, length-append, length-drop, get_or-eq_default}
 use lib.Seq.{get_or-drop, get_or-append-add, drop-cons, drop-drop}
 use Rattle.laws.specs.Choice.{pick, within}
-use Rattle.laws.proofs.Choice.{both, pick_turned}
+use Rattle.laws.proofs.Choice.{pick_turned, pick-never}
 use Rattle.laws.proofs.Every.{clash}
 use Rattle.form.specs.Bytes.{semicolon, line_feed, is_mark, is_end}
 use Rattle.form.specs.Parts.{count}
@@ -19,14 +20,16 @@ use Rattle.form.specs.Times.{is_time, ticks_of}
 use Rattle.form.proofs.Bytes.{mark_true}
 use Rattle.form.proofs.Parts.{count-append, none_cons}
 use Rattle.form.proofs.Times.{ticks_whole, ticks_decimal}
+use Rattle.std.specs.Prelude.{Option, Some, None, is_some}
 use Rattle.typed.specs.declared.DigitsTaken.{DigitsTaken}
 use Rattle.typed.specs.declared.FieldTaken.{FieldTaken}
 use Rattle.typed.specs.Taken.{TakesDigits, decimals_good, decimals_length, decimals_value, TakesDecimals, field_of, ends_at, TakesFormField}
 use Rattle.form.proofs.Digits.{digits_are, digits_cut, digits_over}
 use Rattle.typed.proofs.Digits.{capped_scaled}
+use Rattle.typed.proofs.Found.{of_some, of_none}
 use Rattle.typed.proofs.Fields.{field_told, field_is}
 use Rattle.typed.proofs.Shapes.{no_marks, whole_is, decimal_is, not_whole, not_decimal}
-use Rattle.typed.proofs.Told.{mark_no_end, no_ends, some_taken}
+use Rattle.typed.proofs.Told.{mark_no_end, no_ends, some_taken, some_digits}
 
 module _ (s : List ℕ) where
   abbrev whole : List ℕ
@@ -104,7 +107,7 @@ module _ (s : List ℕ) where
       go false h = unmarked h
 
 module _ (text : List ℕ) (at : ℕ) (last : Bool) (digits : DigitsTaken) (taken : TakesDigits (drop at text) at digits)
-    (decimal : FieldTaken) (decimals_taken : TakesDecimals (drop digits.next text) digits.next decimal) where
+    (found : Option FieldTaken) (decimals_taken : TakesDecimals (drop digits.next text) digits.next found) where
   abbrev typed : List ℕ
   typed = drop at text
 
@@ -114,21 +117,8 @@ module _ (text : List ℕ) (at : ℕ) (last : Bool) (digits : DigitsTaken) (take
   behind_is : drop digits.next text ≡ behind_whole typed
   behind_is = ap (λ (n : ℕ). drop n text) taken.1 ∙ sym (drop-drop (length (digits_of typed)) at text)
 
-  size_is : decimal.next ≡ at + length time.front
-  size_is = let e = decimals_taken.next_at ∙ ap (λ (r : List ℕ). digits.next + decimals_length r) behind_is in omega (arith, e, taken.1, time.size)
-
-  pub time_within : at ≤ length text → decimal.next ≤ length text
-  time_within inside = omega (arith, size_is, ap length time.cut, length-append time.front time.rest, length-drop at text)
-
-  -- the byte behind the front
-  end_is : ends_at last text decimal.next ≡ ends_at last time.rest 0
-  end_is =
-      ap (λ (b : ℕ). eqb b (pick last line_feed semicolon))
-      (ap (λ (i : ℕ). get_or text i 0) size_is ∙ sym (get_or-drop at text (length time.front) 0) ∙ ap (λ (s : List ℕ). get_or s (length time.front) 0) time.cut
-      ∙ ap (λ (i : ℕ). get_or (time.front ++ time.rest) i 0) (omega arith) ∙ get_or-append-add time.front time.rest 0 0)
-
   -- the front is a time where its parts are good
-  good_is : pick decimal.good (ltb at digits.next) false ≡ is_time time.front
+  good_is : pick (is_some found) (ltb at digits.next) false ≡ is_time time.front
   good_is =
       ap (λ (x : Bool). pick x (ltb at digits.next) false) (decimals_taken.told ∙ ap decimals_good behind_is)
       ∙ ap (λ (x : Bool). pick (decimals_good (behind_whole typed)) x false) (ap (ltb at) taken.1 ∙ some_taken at (length (digits_of typed))) ∙ sym time.good
@@ -138,23 +128,56 @@ module _ (text : List ℕ) (at : ℕ) (last : Bool) (digits : DigitsTaken) (take
       subst (λ (t : List ℕ). pick (ends_at last t (length (field_of t))) (is_time (field_of t)) false ≡ pick (ends_at last time.rest 0) (is_time time.front) false) (sym time.cut)
       (field_told is_time last time.front time.no_end time.rest (λ more e. time.stops more))
 
-  -- a time is taken
-  pub time_taken : (good : Bool) (value : ℕ) → good ≡ pick (ends_at last text decimal.next) (pick decimal.good (ltb at digits.next) false) false
-      → value ≡ capped (digits.value * 100 + decimal.value)
-      → TakesFormField is_time ticks_of last typed at (record { good = good; value = value; next = decimal.next + 1 })
-  time_taken good value by_parts by_values =
+  -- no time is taken where its parts are none
+  not_taken : pick (is_some found) (ltb at digits.next) false ≡ false → TakesFormField is_time ticks_of last typed at None
+  not_taken bad =
       record {
-        told = by_parts ∙ ap (λ (x : Bool). pick x (pick decimal.good (ltb at digits.next) false) false) end_is ∙ ap (λ (x : Bool). pick (ends_at last time.rest 0) x false) good_is ∙ sym field_at;
-        valued = λ h. by_values ∙ worth_is (both decimal.good (ltb at digits.next) (both (ends_at last text decimal.next) _ (sym by_parts ∙ h)).1).0 ∙ ap (λ (f : List ℕ). capped (ticks_of f)) (sym (field h));
-        next_at = λ h. let e = ap length (field h) in omega (arith, size_is, e);
+        told = sym (field_at ∙ ap (λ (x : Bool). pick (ends_at last time.rest 0) x false) (sym good_is ∙ bad) ∙ pick-never (ends_at last time.rest 0));
+        valued = of_none _;
+        next_at = of_none _;
       }
-    where
-      field : good ≡ true → field_of typed ≡ time.front
-      field h = ap field_of time.cut ∙ field_is is_time last time.front time.no_end time.rest (sym end_is ∙ (both _ _ (sym by_parts ∙ h)).0)
 
-      worth_is : decimal.good ≡ true → capped (digits.value * 100 + decimal.value) ≡ capped (ticks_of time.front)
-      worth_is h =
-          ap (λ (v : ℕ). capped (digits.value * 100 + v)) (decimals_taken.valued h ∙ ap decimals_value behind_is)
-          ∙ ap (λ (v : ℕ). capped (v * 100 + decimals_value (behind_whole typed))) taken.0
-          ∙ capped_scaled (value_of (digits_of typed)) 100 (decimals_value (behind_whole typed)) (omega arith)
-          ∙ ap capped (ap (λ (v : ℕ). v + decimals_value (behind_whole typed)) (mul_comm (value_of (digits_of typed)) 100) ∙ sym time.ticks)
+  pub no_decimals : found ≡ None → TakesFormField is_time ticks_of last typed at None
+  no_decimals none = not_taken (rw none)
+
+  pub no_whole : at ≡ digits.next → TakesFormField is_time ticks_of last typed at None
+  no_whole none = not_taken (ap (λ (x : Bool). pick (is_some found) x false) (le-ltb at digits.next (omega (arith, none))) ∙ pick-never (is_some found))
+
+  module _ (decimal : FieldTaken) (is-found : found ≡ Some decimal) where
+    size_is : decimal.next ≡ at + length time.front
+    size_is = let e = decimals_taken.next_at decimal is-found ∙ ap (λ (r : List ℕ). digits.next + decimals_length r) behind_is in omega (arith, e, taken.1, time.size)
+
+    pub time_within : at ≤ length text → decimal.next ≤ length text
+    time_within inside = omega (arith, size_is, ap length time.cut, length-append time.front time.rest, length-drop at text)
+
+    -- the byte behind the front
+    end_is : ends_at last text decimal.next ≡ ends_at last time.rest 0
+    end_is =
+        ap (λ (b : ℕ). eqb b (pick last line_feed semicolon))
+        (ap (λ (i : ℕ). get_or text i 0) size_is ∙ sym (get_or-drop at text (length time.front) 0) ∙ ap (λ (s : List ℕ). get_or s (length time.front) 0) time.cut
+        ∙ ap (λ (i : ℕ). get_or (time.front ++ time.rest) i 0) (omega arith) ∙ get_or-append-add time.front time.rest 0 0)
+
+    -- nor where its end is none
+    pub no_time_end : ends_at last text decimal.next ≡ false → TakesFormField is_time ticks_of last typed at None
+    no_time_end bad =
+        record { told = sym (field_at ∙ ap (λ (x : Bool). pick x (is_time time.front) false) (sym end_is ∙ bad)); valued = of_none _; next_at = of_none _ }
+
+    -- a time is taken
+    pub time_taken : ends_at last text decimal.next ≡ true → (at ≡ digits.next → ⊥)
+        → TakesFormField is_time ticks_of last typed at (Some (record { value = capped (digits.value * 100 + decimal.value); next = decimal.next + 1 }))
+    time_taken ended some =
+        record {
+          told = sym (field_at ∙ ap (λ (x : Bool). pick x (is_time time.front) false) (sym end_is ∙ ended) ∙ sym good_is ∙ ap (λ (x : Option FieldTaken). pick (is_some x) (ltb at digits.next) false) is-found ∙ some_digits at digits.next (omega (arith, taken.1)) some);
+          valued = of_some (λ (taken : FieldTaken). taken.value ≡ capped (ticks_of (field_of typed))) _ (worth_is ∙ ap (λ (f : List ℕ). capped (ticks_of f)) (sym field));
+          next_at = of_some (λ (taken : FieldTaken). taken.next ≡ at + suc (length (field_of typed))) _ (let e = ap length field in omega (arith, size_is, e));
+        }
+      where
+        field : field_of typed ≡ time.front
+        field = ap field_of time.cut ∙ field_is is_time last time.front time.no_end time.rest (sym end_is ∙ ended)
+
+        worth_is : capped (digits.value * 100 + decimal.value) ≡ capped (ticks_of time.front)
+        worth_is =
+            ap (λ (v : ℕ). capped (digits.value * 100 + v)) (decimals_taken.valued decimal is-found ∙ ap decimals_value behind_is)
+            ∙ ap (λ (v : ℕ). capped (v * 100 + decimals_value (behind_whole typed))) taken.0
+            ∙ capped_scaled (value_of (digits_of typed)) 100 (decimals_value (behind_whole typed)) (omega arith)
+            ∙ ap capped (ap (λ (v : ℕ). v + decimals_value (behind_whole typed)) (mul_comm (value_of (digits_of typed)) 100) ∙ sym time.ticks)

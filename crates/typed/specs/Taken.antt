@@ -1,5 +1,6 @@
 -- What each piece taken from a text holds, and where the next one begins; s is the text from where it is taken.
-use Rattle.std.specs.Prelude.{ℕ, suc, ◌+◌, ◌-◌, ◌*◌, ◌^◌, ◌≤◌, ◌≡◌, Bool, true, false, List, length, get_or, drop, eqb}
+use Rattle.std.specs.Prelude.{ℕ, suc, ◌+◌, ◌-◌, ◌*◌, ◌^◌, ◌≤◌, ◌≡◌, Bool, true, false, List, length, get_or, drop, eqb, Option, is_some}
+use Rattle.std.specs.Option.{ForSome}
 use Rattle.laws.specs.Choice.{pick, within}
 use Rattle.laws.specs.Sums.{only}
 use Rattle.typed.specs.declared.DigitsTaken.{DigitsTaken}
@@ -22,11 +23,11 @@ decimals_length s = only (is_mark (get_or s 0 0)) (suc (length (digits_of (drop 
 unfoldable pub decimals_value : List ℕ → ℕ
 decimals_value s = only (is_mark (get_or s 0 0)) (value_of (digits_of (drop 1 s)) * 10 ^ (2 - length (digits_of (drop 1 s))))
 
-pub record TakesDecimals (s : List ℕ) (at : ℕ) (taken : FieldTaken) : Type 0 where
-  pub told : taken.good ≡ decimals_good s
-  pub valued : taken.good ≡ true → taken.value ≡ decimals_value s
-  pub few : taken.value ≤ 99
-  pub next_at : taken.next ≡ at + decimals_length s
+pub record TakesDecimals (s : List ℕ) (at : ℕ) (taken : Option FieldTaken) : Type 0 where
+  pub told : is_some taken ≡ decimals_good s
+  pub valued : ForSome taken (λ decimals. decimals.value ≡ decimals_value s)
+  pub few : ForSome taken (λ decimals. decimals.value ≤ 99)
+  pub next_at : ForSome taken (λ decimals. decimals.next ≡ at + decimals_length s)
 
 -- the field that s begins with: up to a semicolon or a line feed
 unfoldable pub field_of : List ℕ → List ℕ
@@ -37,7 +38,7 @@ abbrev pub ends_at : (last : Bool) → List ℕ → ℕ → Bool
 ends_at last s i = eqb (get_or s i 0) (pick last line_feed semicolon)
 
 -- a field that passes a test and is ended as it should be: its value, and where the next one begins
-pub record TakesFormField (passes : List ℕ → Bool) (value : List ℕ → ℕ) (last : Bool) (s : List ℕ) (at : ℕ) (taken : FieldTaken) : Type 0 where
-  pub told : taken.good ≡ pick (ends_at last s (length (field_of s))) (passes (field_of s)) false
-  pub valued : taken.good ≡ true → taken.value ≡ capped (value (field_of s))
-  pub next_at : taken.good ≡ true → taken.next ≡ at + suc (length (field_of s))
+pub record TakesFormField (passes : List ℕ → Bool) (value : List ℕ → ℕ) (last : Bool) (s : List ℕ) (at : ℕ) (taken : Option FieldTaken) : Type 0 where
+  pub told : is_some taken ≡ pick (ends_at last s (length (field_of s))) (passes (field_of s)) false
+  pub valued : ForSome taken (λ field. field.value ≡ capped (value (field_of s)))
+  pub next_at : ForSome taken (λ field. field.next ≡ at + suc (length (field_of s)))

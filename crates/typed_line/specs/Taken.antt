@@ -1,5 +1,6 @@
 -- What a line taken from a text holds, and where the next one begins; s is the text from where it is taken.
-use Rattle.std.specs.Prelude.{ℕ, suc, ◌+◌, ◌≡◌, Bool, true, false, List, length, ltb}
+use Rattle.std.specs.Prelude.{ℕ, suc, ◌+◌, ◌≡◌, Bool, false, List, length, ltb, Option, is_some}
+use Rattle.std.specs.Option.{ForSome}
 use Rattle.laws.specs.Choice.{pick}
 use Rattle.model.specs.declared.order.Task.{Task}
 use Rattle.form.specs.Bytes.{is_line_feed}
@@ -19,7 +20,7 @@ is_finished s = ltb 0 (count is_line_feed s)
 abbrev pub capped_task : Task → Task
 capped_task t = record { width = capped t.width; period = capped t.period; deadline = capped t.deadline; run = capped t.run }
 
-pub record TakesLine (s : List ℕ) (at : ℕ) (taken : LineTaken) : Type 0 where
-  pub told : taken.shaped ≡ pick (is_finished s) (is_line (first_line s)) false
-  pub typed : taken.shaped ≡ true → taken.task ≡ capped_task (line_task (first_line s))
-  pub next_at : taken.shaped ≡ true → taken.next ≡ at + suc (length (first_line s))
+pub record TakesLine (s : List ℕ) (at : ℕ) (taken : Option LineTaken) : Type 0 where
+  pub told : is_some taken ≡ pick (is_finished s) (is_line (first_line s)) false
+  pub typed : ForSome taken (λ line. line.task ≡ capped_task (line_task (first_line s)))
+  pub next_at : ForSome taken (λ line. line.next ≡ at + suc (length (first_line s)))

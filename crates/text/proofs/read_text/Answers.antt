@@ -1,10 +1,11 @@
-use mathlib.Core.Path.{sym, ◌∙◌, subst}
+use mathlib.Core.Path.{◌≡◌, sym, ◌∙◌, subst}
 use Prim.Native.Nat.{ℕ, ◌≤◌, ◌<◌}
 use lib.ListN.{length}
+use Rattle.std.specs.Prelude.{Err}
 use Rattle.model.specs.Limits.{most_tasks}
-use Rattle.model.proofs.Rules.{done_pass}
+use Rattle.model.proofs.Rules.{done_pass, refused_given, done_given, handed_on}
 use Rattle.model.proofs.Output.{after_refused}
-use Rattle.text.specs.Taken.{TakesLines}
+use Rattle.text.specs.Taken.{typed_table, lines_answer}
 use Rattle.text.proofs.Rules.{text_many, text_stops, order_written}
 use Rattle.text.proofs.read_text.Goals as goal
 
@@ -16,20 +17,22 @@ returns-then-lines-gt-MOST_TASKS c =
       written = sym (after_refused _ _ a.out.now);
     }
 
-pub returns-in-Err : goal.returns-in-Err
-returns-in-Err c =
+pub returns-in_err-take_lines : goal.returns-in_err-take_lines
+returns-in_err-take_lines c =
     let a = c.args in
     let counted = c.count_lines-lines.ensures in
-    let taken = subst (λ (n : ℕ). TakesLines a.text.now n c.take_lines-taken.result) counted c.take_lines-taken.ensures in
+    let refused = refused_given (typed_table a.text.now c.count_lines-lines.result) (lines_answer a.text.now c.count_lines-lines.result) (sym c.take_lines.ensures ∙ c.in_err-take_lines.was) in
+    let passed = handed_on c.from_residual.result c.from_residual.ensures.1 in
+    rw passed (
     record {
-      answered = sym (text_stops a.processors a.text.now (length a.out.now) (subst (λ (n : ℕ). n ≤ most_tasks) counted c.if-lines-gt-MOST_TASKS.false) _ (sym taken.answered ∙ c.in-Err.is));
+      answered = sym (text_stops a.processors a.text.now (length a.out.now) (subst (λ (n : ℕ). n ≤ most_tasks) counted c.if-lines-gt-MOST_TASKS.false) _ (subst (λ (n : ℕ). lines_answer a.text.now n ≡ Err c.in_err-take_lines.field-0.0) counted refused));
       written = sym (after_refused _ _ a.out.now);
     }
+    )
 
 pub returns : goal.returns
 returns c =
     let a = c.args in
     let lines = c.count_lines-lines in
-    let taken = c.take_lines-taken.ensures in
-    let done = c.in_default.is in
-    order_written a.processors a.text.now a.out.now lines.result _ _ _ lines.ensures c.if-lines-gt-MOST_TASKS.false (done_pass 0 _ (sym taken.answered ∙ done)) (taken.typed _ done) c.write.ensures
+    let done = done_given (typed_table a.text.now lines.result) (lines_answer a.text.now lines.result) (sym c.take_lines.ensures ∙ c.in_ok-take_lines.was) in
+    order_written a.processors a.text.now a.out.now lines.result _ _ _ lines.ensures c.if-lines-gt-MOST_TASKS.false (done_pass 0 _ done.1) done.2 c.write.ensures

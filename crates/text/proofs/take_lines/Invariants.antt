@@ -1,5 +1,5 @@
 use mathlib.Core.Path.{◌≡◌}
-use Prim.Native.Nat.{◌≤◌, ◌-◌}
+use Prim.Native.Nat.{◌≤◌}
 use Rattle.laws.specs.Joined.{joined, filled}
 use Rattle.model.specs.Limits.{most_tasks, zero_task}
 use Rattle.model.proofs.Rules.{AllPass}
@@ -10,6 +10,3 @@ use Rattle.text.proofs.take_lines.Given as goal
 
 abbrev pub invariant-loop-i : goal.invariant-loop-i
 invariant-loop-i l = (l.i ≤ l.lines) × LineBegins l.text l.i l.at × AllPass (joined (line_rules l.text) l.i) × (l.table ≡ filled (typed_task l.text) zero_task most_tasks l.i)
-
-abbrev pub decreases-loop-i : goal.decreases-loop-i
-decreases-loop-i l = l.lines - l.i

@@ -1,20 +1,15 @@
-use mathlib.Core.Path.{sym, ◌∙◌}
+use mathlib.Core.Path.{◌≡◌, sym, ap, ◌∙◌}
 use lib.ListN.{get_or}
-use Rattle.typed.specs.declared.Kind.TheVariants.{Digit, Mark, Semicolon, LineFeed, Other}
-use Rattle.typed.proofs.ByKind.{ends_by_lem}
+use Rattle.typed.specs.declared.Kind.{Kind}
+use Rattle.typed.specs.Kinds.{kind_of}
+use Rattle.typed.proofs.ByKind.{is_kind, end_kind, end_told}
 use Rattle.typed.proofs.ends_at.Goals as goal
+use Rattle.typed.proofs.ends_at.Goals.{then-last, else-last}
 
-pub returns-in-Digit : goal.returns-in-Digit
-returns-in-Digit c = let a = c.args in ends_by_lem (get_or a.text.now a.at 0) a.last Digit (sym c.kind_at-kind.ensures ∙ c.in-Digit.is)
+end_is : (c : goal.After-eq) → c.if-last.end ≡ end_kind c.args.last
+end_is c = elim c.if-last.branch [ then-last w ↦ w.end-is ∙ sym (ap end_kind w.if-last.true) | else-last w ↦ w.end-is ∙ sym (ap end_kind w.if-last.false) ]
 
-pub returns-in-Mark : goal.returns-in-Mark
-returns-in-Mark c = let a = c.args in ends_by_lem (get_or a.text.now a.at 0) a.last Mark (sym c.kind_at-kind.ensures ∙ c.in-Mark.is)
-
-pub returns-in-Semicolon : goal.returns-in-Semicolon
-returns-in-Semicolon c = let a = c.args in ends_by_lem (get_or a.text.now a.at 0) a.last Semicolon (sym c.kind_at-kind.ensures ∙ c.in-Semicolon.is)
-
-pub returns-in-LineFeed : goal.returns-in-LineFeed
-returns-in-LineFeed c = let a = c.args in ends_by_lem (get_or a.text.now a.at 0) a.last LineFeed (sym c.kind_at-kind.ensures ∙ c.in-LineFeed.is)
-
-pub returns-in-Other : goal.returns-in-Other
-returns-in-Other c = let a = c.args in ends_by_lem (get_or a.text.now a.at 0) a.last Other (sym c.kind_at-kind.ensures ∙ c.in-Other.is)
+pub returns : goal.returns
+returns c =
+    let a = c.args in
+    c.eq.ensures ∙ ap (λ (kind : Kind). is_kind kind c.if-last.end) c.kind_at.ensures ∙ ap (is_kind (kind_of (get_or a.text.now a.at 0))) (end_is c) ∙ end_told (get_or a.text.now a.at 0) a.last

@@ -1,24 +1,8 @@
-use mathlib.Core.Path.{sym, ◌∙◌}
-use Rattle.typed.specs.declared.Kind.TheVariants.{Digit, Mark, Semicolon, LineFeed, Other}
-use Rattle.typed.proofs.ByKind.{Told, kind_tells}
+use mathlib.Core.Path.{sym, ap, ◌∙◌}
+use Rattle.typed.specs.declared.Kind.{Kind}
+use Rattle.typed.specs.declared.Kind.TheVariants.{LineFeed}
+use Rattle.typed.proofs.ByKind.{is_kind, kind_tells}
 use Rattle.typed.proofs.is_line_feed.Goals as goal
 
-pub returns-in-Digit : goal.returns-in-Digit
-unfolding Told
-returns-in-Digit c = sym (kind_tells _ Digit (sym c.kind_of-kind.ensures ∙ c.in-Digit.is)).feed_is
-
-pub returns-in-Mark : goal.returns-in-Mark
-unfolding Told
-returns-in-Mark c = sym (kind_tells _ Mark (sym c.kind_of-kind.ensures ∙ c.in-Mark.is)).feed_is
-
-pub returns-in-Semicolon : goal.returns-in-Semicolon
-unfolding Told
-returns-in-Semicolon c = sym (kind_tells _ Semicolon (sym c.kind_of-kind.ensures ∙ c.in-Semicolon.is)).feed_is
-
-pub returns-in-LineFeed : goal.returns-in-LineFeed
-unfolding Told
-returns-in-LineFeed c = sym (kind_tells _ LineFeed (sym c.kind_of-kind.ensures ∙ c.in-LineFeed.is)).feed_is
-
-pub returns-in-Other : goal.returns-in-Other
-unfolding Told
-returns-in-Other c = sym (kind_tells _ Other (sym c.kind_of-kind.ensures ∙ c.in-Other.is)).feed_is
+pub returns : goal.returns
+returns c = c.eq.ensures ∙ ap (λ (kind : Kind). is_kind kind LineFeed) c.kind_of.ensures ∙ sym (kind_tells c.args.byte).feed_is

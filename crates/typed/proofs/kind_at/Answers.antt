@@ -1,8 +1,9 @@
 use mathlib.Core.Path.{sym, ap}
+use borrow.Author.Tests.{ltb-false}
 use lib.ListN.{get_or-eq_default}
 use Rattle.typed.specs.Kinds.{kind_of}
 use Rattle.typed.proofs.kind_at.Goals as goal
 
-pub returns-else-at-text : goal.returns-else-at-text
+pub returns-in-None : goal.returns-in-None
 unfolding kind_of
-returns-else-at-text c = sym (ap kind_of (get_or-eq_default c.args.text.now 0 c.if-at-text.false))
+returns-in-None c = sym (ap kind_of (get_or-eq_default c.args.text.now 0 (ltb-false _ _ (sym c.in-None.ensures.lookup.0))))

@@ -1,5 +1,8 @@
-use mathlib.Core.Path.{sym, ◌∙◌, subst}
+use mathlib.Core.Path.{◌≡◌, sym, ◌∙◌, subst}
 use Prim.Native.Nat.{ℕ, ◌+◌}
+use native.Mathlib.Omega.{arith}
+use lib.ListN.{length, drop}
+use Rattle.form.specs.Numbers.{capped, value_of, digits_of}
 use Rattle.laws.proofs.Choice.{within_true}
 use Rattle.form.proofs.Digits.{digits_stopped, digits_past}
 use Rattle.typed.proofs.Digits.{Taking, taking_first, taking_more, taking_last}
@@ -26,4 +29,7 @@ loop-next-preserved c =
     subst (λ (v : ℕ). Taking a.text.now a.at v (l.next + 1)) (sym c.with_digit-value.ensures) step
 
 pub returns : goal.returns
-returns c = taking_last _ _ _ _ c.loop-next.invariant (digits_past _ _ c.loop-next-test.false)
+returns c =
+    let t = c.args.text.now in
+    let end : c.loop-next.next ≡ length t = omega (arith, c.loop-next.invariant.inside, c.loop-next-test.false) in
+    subst (λ (n : ℕ). (c.loop-next.value ≡ capped (value_of (digits_of (drop c.args.at t)))) × (n ≡ c.args.at + length (digits_of (drop c.args.at t)))) end (taking_last _ _ _ _ c.loop-next.invariant (digits_past _ _ c.loop-next-test.false))

@@ -1,56 +1,41 @@
 use mathlib.Core.Bool.{false}
-use borrow.Author.Tests.{not-true, not-false}
 use Rattle.form.specs.Numbers.{value_of, is_number}
 use Rattle.form.specs.Times.{is_time, ticks_of}
-use Rattle.typed_line.proofs.Steps.{next_inside, none_taken, no_width, no_period, no_deadline, line_taken}
+use Rattle.typed_line.proofs.Steps.{next_inside, no_width, no_period, no_deadline, no_run, line_taken}
 use Rattle.typed_line.proofs.take_line.Goals as goal
 
-pub returns-then-not-width : goal.returns-then-not-width
-returns-then-not-width c =
+pub returns-in_err-width : goal.returns-in_err-width
+returns-in_err-width c =
     let a = c.args in
-    let w = c.take_number-width in
-    none_taken a.text.now a.at _ c.unshaped.ensures (no_width a.text.now a.at w.result w.ensures (not-true _ c.if-not-width.true))
+    rw c.from_residual.ensures (no_width a.text.now a.at _ c.take_number.ensures c.in_err-width.was)
 
-pub take_time-period-requires : goal.take_time-period-requires
-take_time-period-requires c =
-    let a = c.args in
-    let w = c.take_number-width in
-    next_inside is_number value_of false a.text.now a.at w.result w.ensures (not-false _ c.if-not-width.false)
+pub take_time-requires : goal.take_time-requires
+take_time-requires c = let a = c.args in next_inside is_number value_of false a.text.now a.at _ c.take_number.ensures _ c.in_ok-width.was
 
-pub returns-then-not-period : goal.returns-then-not-period
-returns-then-not-period c =
+pub returns-in_err-period : goal.returns-in_err-period
+returns-in_err-period c =
     let a = c.args in
-    let w = c.take_number-width in
-    let p = c.take_time-period in
-    none_taken a.text.now a.at _ c.unshaped-then-not-period.ensures (no_period a.text.now a.at w.result w.ensures (not-false _ c.if-not-width.false) p.result p.ensures (not-true _ c.if-not-period.true))
+    rw c.from_residual-in_err-period.ensures (no_period a.text.now a.at _ c.take_number.ensures _ c.in_ok-width.was _ c.take_time.ensures c.in_err-period.was)
 
-pub take_time-deadline-requires : goal.take_time-deadline-requires
-take_time-deadline-requires c =
-    let a = c.args in
-    let w = c.take_number-width in
-    let p = c.take_time-period in
-    next_inside is_time ticks_of false a.text.now w.result.next p.result p.ensures (not-false _ c.if-not-period.false)
+pub take_time-requires-2 : goal.take_time-requires-2
+take_time-requires-2 c = next_inside is_time ticks_of false c.args.text.now _ _ c.take_time.ensures _ c.in_ok-period.was
 
-pub returns-then-not-deadline : goal.returns-then-not-deadline
-returns-then-not-deadline c =
+pub returns-in_err-deadline : goal.returns-in_err-deadline
+returns-in_err-deadline c =
     let a = c.args in
-    let w = c.take_number-width in
-    let p = c.take_time-period in
-    let d = c.take_time-deadline in
-    none_taken a.text.now a.at _ c.unshaped-then-not-deadline.ensures (no_deadline a.text.now a.at w.result w.ensures (not-false _ c.if-not-width.false) p.result p.ensures (not-false _ c.if-not-period.false) d.result d.ensures (not-true _ c.if-not-deadline.true))
+    rw c.from_residual-in_err-deadline.ensures
+    (no_deadline a.text.now a.at _ c.take_number.ensures _ c.in_ok-width.was _ c.take_time.ensures _ c.in_ok-period.was _ c.take_time-2.ensures c.in_err-deadline.was)
 
-pub take_time-run-requires : goal.take_time-run-requires
-take_time-run-requires c =
+pub take_time-requires-3 : goal.take_time-requires-3
+take_time-requires-3 c = next_inside is_time ticks_of false c.args.text.now _ _ c.take_time-2.ensures _ c.in_ok-deadline.was
+
+pub returns-in_err-run : goal.returns-in_err-run
+returns-in_err-run c =
     let a = c.args in
-    let w = c.take_number-width in
-    let p = c.take_time-period in
-    let d = c.take_time-deadline in
-    next_inside is_time ticks_of false a.text.now p.result.next d.result d.ensures (not-false _ c.if-not-deadline.false)
+    rw c.from_residual-in_err-run.ensures
+    (no_run a.text.now a.at _ c.take_number.ensures _ c.in_ok-width.was _ c.take_time.ensures _ c.in_ok-period.was _ c.take_time-2.ensures _ c.in_ok-deadline.was _ c.take_time-3.ensures c.in_err-run.was)
 
 pub returns : goal.returns
 returns c =
     let a = c.args in
-    let w = c.take_number-width in
-    let p = c.take_time-period in
-    let d = c.take_time-deadline in
-    line_taken a.text.now a.at w.result w.ensures (not-false _ c.if-not-width.false) p.result p.ensures (not-false _ c.if-not-period.false) d.result d.ensures (not-false _ c.if-not-deadline.false) c.take_time-run.result c.take_time-run.ensures
+    line_taken a.text.now a.at _ c.take_number.ensures _ c.in_ok-width.was _ c.take_time.ensures _ c.in_ok-period.was _ c.take_time-2.ensures _ c.in_ok-deadline.was _ c.take_time-3.ensures _ c.in_ok-run.was
