@@ -1,5 +1,5 @@
 -- The items of a text taken one by one: what is left of the answer and of the set.
-use Rattle.std.specs.Prelude.{Ok, Err}
+use Rattle.std.specs.Prelude.{Ok, Err, Result}
 use mathlib.Core.Path.{◌≡◌, refl, sym, ap, ◌∙◌}
 use mathlib.Core.Bool.{Bool, false}
 use mathlib.Core.List.{List, [], ◌∷◌}
@@ -15,8 +15,8 @@ use Rattle.model.specs.Kinds.{Answer}
 use Rattle.model.specs.declared.answer.Refusal.{Refusal}
 use Rattle.model.specs.declared.answer.Refusal.TheVariants.{OfList}
 use Rattle.model.specs.declared.answer.ListCause.TheVariants.{ListLength}
-use Rattle.model.specs.Rules.{first_broken}
-use Rattle.model.proofs.Rules.{done_pass, done_count, pass_on, stop}
+use Rattle.model.specs.Rules.{first_broken, given}
+use Rattle.model.proofs.Rules.{done_pass, done_count, pass_on, stop, done_given, refused_given}
 use Rattle.form.specs.Parts.{count, up_to, behind}
 use Rattle.form.proofs.Parts.{up_to_none, up_to_ends, count_behind_less}
 use Rattle.sets.specs.Sets.{IsSet, union, span}
@@ -26,7 +26,7 @@ use Rattle.list_form.specs.Items.{Item, ItemRight, item_set, items_set}
 use Rattle.list_form.proofs.Listed.{items_set_is_set}
 use Rattle.list.specs.declared.ItemTaken.{ItemTaken}
 use Rattle.list.specs.Read.{most_list_text, is_comma, item_rules, items_rules, content_rules, list_rules, list_answer, item_of, items_in, items_of, reading_by, read_list}
-use Rattle.list.specs.Taken.{HoldsItem, TakesItem}
+use Rattle.list.specs.Taken.{held_item, HoldsItem, TakesItem, all_answer, all_set}
 
 -- the processors of an item, counted from its first
 item_span : (item : Item) → ItemRight item → item_set item ≡ span item.first (item.last + 1 - item.first)
@@ -41,8 +41,27 @@ item_span item right =
         (λ e. let l = leb-true k item.last e in lt-ltb k _ (omega (arith, l, right.rises)))
         (λ e. let l = ltb-true k _ e in le-leb k item.last (omega (arith, l, right.rises)))
 
-pub taken_span : (item : Item) (ends : ℕ) (taken : ItemTaken) → HoldsItem item ends taken → item_set item ≡ span taken.first (taken.last + 1 - taken.first)
-taken_span item ends taken held =
+-- of an item that is taken: what it is, and that it is right
+pub record ItemHeld (item : Item) (ends : ℕ) (answer : Answer) (taken : ItemTaken) : Type 0 where
+  pub done : (count : ℕ) × (answer ≡ Ok count)
+  pub first_is : taken.first ≡ item.first
+  pub last_is : taken.last ≡ item.last
+  pub next_at : taken.next ≡ ends
+  pub right : ItemRight item
+
+pub item_held : (item : Item) (ends : ℕ) (answer : Answer) (found : Result ItemTaken Refusal) (taken : ItemTaken) → HoldsItem item ends answer found → found ≡ Ok taken → ItemHeld item ends answer taken
+item_held item ends answer found taken holds e =
+    let given-so = done_given (held_item item ends) answer (sym holds.answered ∙ e) in
+    record {
+      done = (given-so.0, given-so.1);
+      first_is = ap (λ (t : ItemTaken). t.first) given-so.2;
+      last_is = ap (λ (t : ItemTaken). t.last) given-so.2;
+      next_at = ap (λ (t : ItemTaken). t.next) given-so.2;
+      right = holds.right taken e;
+    }
+
+pub taken_span : (item : Item) (ends : ℕ) (answer : Answer) (taken : ItemTaken) → ItemHeld item ends answer taken → item_set item ≡ span taken.first (taken.last + 1 - taken.first)
+taken_span item ends answer taken held =
     item_span item held.right ∙ ap (λ (first : ℕ). span first (item.last + 1 - first)) (sym held.first_is) ∙ ap (λ (last : ℕ). span taken.first (last + 1 - taken.first)) (sym held.last_is)
 
 -- the first item decides where it is refused, and is passed over where it is not
@@ -73,40 +92,36 @@ unfolding items_in items_set item_set
 last_set set s is = ap (union set) (none_union _ (set_is_set _) ∙ ap (λ (item : List ℕ). item_set (item_of item)) (sym (up_to_none is_comma s is)))
 
 module _ (text : List ℕ) where
-  -- the whole answer and the whole set
-  abbrev pub all_answer : Answer
-  all_answer = first_broken 0 (items_rules 0 (count is_comma text) text)
-
-  abbrev pub all_set : ℕ
-  all_set = items_set (items_in (count is_comma text) text)
-
   -- the items from a place on give the rest of both; past the end there is none
   pub record ItemsLeft (at set : ℕ) : Type 0 where
     pub inside : at ≤ suc (length text)
     pub word : IsSet set
-    pub answer_left : at ≤ length text → all_answer ≡ first_broken 0 (items_rules at (count is_comma (drop at text)) (drop at text))
-    pub set_left : at ≤ length text → all_set ≡ union set (items_set (items_in (count is_comma (drop at text)) (drop at text)))
-    pub answer_over : length text < at → all_answer ≡ Ok 0
-    pub set_over : length text < at → all_set ≡ set
+    pub answer_left : at ≤ length text → all_answer text ≡ first_broken 0 (items_rules at (count is_comma (drop at text)) (drop at text))
+    pub set_left : at ≤ length text → all_set text ≡ union set (items_set (items_in (count is_comma (drop at text)) (drop at text)))
+    pub answer_over : length text < at → all_answer text ≡ Ok 0
+    pub set_over : length text < at → all_set text ≡ set
 
   pub all_left : ItemsLeft 0 0
-  all_left = record { inside = omega arith; word = omega arith; answer_left = λ _. refl; set_left = λ _. sym (union_none all_set (items_set_is_set (items_in (count is_comma text) text))); answer_over = λ past. absurd (omega (arith, past)); set_over = λ past. absurd (omega (arith, past)) }
+  all_left = record { inside = omega arith; word = omega arith; answer_left = λ _. refl; set_left = λ _. sym (union_none (all_set text) (items_set_is_set (items_in (count is_comma text) text))); answer_over = λ past. absurd (omega (arith, past)); set_over = λ past. absurd (omega (arith, past)) }
 
-  module _ (at set : ℕ) (left : ItemsLeft at set) (inside : at ≤ length text) (taken : ItemTaken) (takes : TakesItem (drop at text) at taken) where
+  module _ (at set : ℕ) (left : ItemsLeft at set) (inside : at ≤ length text) (found : Result ItemTaken Refusal) (takes : TakesItem (drop at text) at found) where
     abbrev s : List ℕ
     s = drop at text
 
-    pub items_stop : (refusal : Refusal) → taken.answer ≡ Err refusal → all_answer ≡ Err refusal
-    items_stop refusal e = left.answer_left inside ∙ first_stops at (count is_comma s) s refusal refl (sym takes.answered ∙ e)
+    pub items_stop : (refusal : Refusal) → found ≡ Err refusal → all_answer text ≡ Err refusal
+    items_stop refusal e = left.answer_left inside ∙ first_stops at (count is_comma s) s refusal refl (refused_given (held_item (item_of (up_to is_comma s)) (at + length (up_to is_comma s))) _ (sym takes.answered ∙ e))
 
-    pub items_more : (c : ℕ) → taken.answer ≡ Ok c → ItemsLeft (taken.next + 1) (union set (item_set (item_of (up_to is_comma s))))
-    items_more c e = go (count is_comma s) refl
+    pub items_more : (taken : ItemTaken) → found ≡ Ok taken → ItemsLeft (taken.next + 1) (union set (item_set (item_of (up_to is_comma s))))
+    items_more taken e = go (count is_comma s) refl
       where
-        here : first_broken 0 (item_rules at (up_to is_comma s)) ≡ Ok c
-        here = sym takes.answered ∙ e
+        held : ItemHeld (item_of (up_to is_comma s)) (at + length (up_to is_comma s)) (first_broken 0 (item_rules at (up_to is_comma s))) taken
+        held = item_held _ _ _ found taken takes e
+
+        here : first_broken 0 (item_rules at (up_to is_comma s)) ≡ Ok held.done.0
+        here = held.done.1
 
         next : taken.next + 1 ≡ at + suc (length (up_to is_comma s))
-        next = omega (arith, (takes.held c e).next_at)
+        next = omega (arith, held.next_at)
 
         size : length s ≡ length text - at
         size = length-drop at text
@@ -114,7 +129,7 @@ module _ (text : List ℕ) where
         go : (n : ℕ) → count is_comma s ≡ n → ItemsLeft (taken.next + 1) (union set (item_set (item_of (up_to is_comma s))))
         go zero is =
             let end : length (up_to is_comma s) ≡ length s = ap length (up_to_none is_comma s is) in
-            let answered = left.answer_left inside ∙ ap (λ (n : ℕ). first_broken 0 (items_rules at n s)) is ∙ last_passes at s c is here in
+            let answered = left.answer_left inside ∙ ap (λ (n : ℕ). first_broken 0 (items_rules at n s)) is ∙ last_passes at s held.done.0 is here in
             let processors = left.set_left inside ∙ ap (λ (n : ℕ). union set (items_set (items_in n s))) is ∙ last_set set s is in
             record {
               inside = omega (arith, next, end, size, inside);
@@ -129,7 +144,7 @@ module _ (text : List ℕ) where
             let rest : behind is_comma s ≡ drop (taken.next + 1) text = drop-drop (suc (length (up_to is_comma s))) at text ∙ ap (λ (k : ℕ). drop k text) (sym next) in
             let counted : count is_comma (drop (taken.next + 1) text) ≡ n = ap (count is_comma) (sym rest) ∙ count_behind_less is_comma s ∙ omega (arith, is) in
             let answered =
-            left.answer_left inside ∙ ap (λ (n : ℕ). first_broken 0 (items_rules at n s)) is ∙ first_passes at n s c here
+            left.answer_left inside ∙ ap (λ (n : ℕ). first_broken 0 (items_rules at n s)) is ∙ first_passes at n s held.done.0 here
             ∙ ap (λ (k : ℕ). first_broken 0 (items_rules k n (behind is_comma s))) (sym next)
             ∙ ap (λ (u : List ℕ). first_broken 0 (items_rules (taken.next + 1) n u)) rest
             ∙ ap (λ (k : ℕ). first_broken 0 (items_rules (taken.next + 1) k (drop (taken.next + 1) text))) (sym counted) in
@@ -152,16 +167,28 @@ reading_answer (Ok count) set = refl
 reading_answer (Err cause) set = refl
 
 -- 65, the empty text, and a text of items
-pub too_long : (text : List ℕ) → most_list_text < length text → read_list text ≡ record { answer = Err (OfList ListLength); set = 0 }
-unfolding read_list list_answer list_rules first_broken
+pub too_long : (text : List ℕ) → most_list_text < length text → list_answer text ≡ Err (OfList ListLength)
+unfolding list_answer list_rules first_broken
 too_long text long = rw (lt-leb (length text) most_list_text long)
 
-pub read_none : (text : List ℕ) → length text ≡ 0 → read_list text ≡ record { answer = Ok 0; set = 0 }
-unfolding read_list list_answer list_rules content_rules first_broken items_of items_set
+pub read_none : (text : List ℕ) → length text ≡ 0 → given (items_set (items_of text)) (list_answer text) ≡ Ok 0
+unfolding given list_answer list_rules content_rules first_broken items_of items_set
 read_none [] none = refl
 read_none (b ∷ s) none = absurd (omega (arith, none))
 
-pub read_items : (text : List ℕ) → length text ≤ most_list_text → (length text ≡ 0 → ⊥) → read_list text ≡ reading_by (all_answer text) (all_set text)
-unfolding read_list list_answer list_rules content_rules first_broken items_of
+pub read_items : (text : List ℕ) → length text ≤ most_list_text → (length text ≡ 0 → ⊥) → given (items_set (items_of text)) (list_answer text) ≡ given (all_set text) (all_answer text)
+unfolding list_answer list_rules content_rules first_broken items_of
 read_items [] short some = absurd (some refl)
 read_items (b ∷ s) short some = rw (le-leb (length (b ∷ s)) most_list_text short)
+
+-- a reading by what is given
+pub read_refused : (text : List ℕ) (refusal : Refusal) → given (items_set (items_of text)) (list_answer text) ≡ Err refusal → record { answer = Err refusal; set = 0 } ≡ read_list text
+unfolding read_list
+read_refused text refusal e = sym (ap (λ (answer : Answer). reading_by answer (items_set (items_of text))) (refused_given (items_set (items_of text)) (list_answer text) e))
+
+pub read_done : (text : List ℕ) (set : ℕ) → given (items_set (items_of text)) (list_answer text) ≡ Ok set → record { answer = Ok 0; set = set } ≡ read_list text
+unfolding read_list list_answer
+read_done text set e =
+    let done = done_given (items_set (items_of text)) (first_broken 0 (list_rules text)) e in
+    let none = done_count 0 (list_rules text) done.1 in
+    ap (λ (s : ℕ). reading_by (Ok 0) s) done.2 ∙ sym (ap (λ (answer : Answer). reading_by answer (items_set (items_of text))) (done.1 ∙ ap Ok none))

@@ -2,11 +2,11 @@
 #![tactic(auto)]
 
 ghost use Rattle.std.specs.Prelude.{◌≡◌, ◌≤◌, eqb, length, get_or, drop};
-ghost use Rattle.model.specs.Rules.{first_broken};
+ghost use Rattle.model.specs.Rules.{given, first_broken};
 ghost use Rattle.form.specs.Parts.{up_to};
-ghost use Rattle.list_form.specs.Items.{dash};
-ghost use Rattle.list.specs.Read.{most_list_text, is_comma, number_rules, end_rules, ReadsList};
-ghost use Rattle.list.specs.Taken.{refused_item, TakesLast, TakesItem, TakesItems};
+ghost use Rattle.list_form.specs.Items.{dash, items_set};
+ghost use Rattle.list.specs.Read.{most_list_text, is_comma, number_rules, end_rules, list_answer, items_of, ReadsList};
+ghost use Rattle.list.specs.Taken.{TakesLast, TakesItem, all_answer, all_set};
 
 use model::{ListCause, Refusal};
 use sets::{span, union};
@@ -25,42 +25,28 @@ pub struct ListReading {
     pub set: u64,
 }
 
-// An item taken: its answer, its numbers, and where it ends.
-#[derive(Clone, Copy)]
+// An item that is no refusal: its numbers, and where it ends.
+#[derive(Clone, Copy, Debug, PartialEq, Eq)]
 pub struct ItemTaken {
-    pub answer: Result<u32, Refusal>,
     pub first: u32,
     pub last: u32,
     pub next: usize,
-}
-
-fn refused_item(cause: Refusal) -> ItemTaken
-    ensures { result ≡ refused_item cause }
-{
-    ItemTaken {
-        answer: Err(cause),
-        first: 0,
-        last: 0,
-        next: 0,
-    }
 }
 
 // Whether a dash stands at a place.
 fn dash_at(text: &[u8], at: usize) -> bool
     ensures { result ≡ eqb (get_or text.now at 0) dash }
 {
-    if at < text.len() {
-        let byte = text[at];
-        byte == b'-'
-    } else {
-        false
+    match text.get(at) {
+        Some(byte) => *byte == b'-',
+        None => false,
     }
 }
 
 // A number of so many digits at a place: 60 where it has none, 61 where it is over 63.
-fn number_answer(at: usize, digits: usize, value: u32) -> Result<u32, Refusal>
+fn judge_number(at: usize, digits: usize, value: u32) -> Result<(), Refusal>
     requires { at ≤ most_list_text }
-    ensures { result ≡ first_broken 0 (number_rules at digits value) }
+    ensures { result ≡ given tt (first_broken 0 (number_rules at digits value)) }
 {
     if digits < 1 {
         return Err(Refusal::OfList(ListCause::ListShape(at as u16)));
@@ -68,113 +54,97 @@ fn number_answer(at: usize, digits: usize, value: u32) -> Result<u32, Refusal>
     if value > MOST_LISTED {
         return Err(Refusal::OfList(ListCause::ListNumber(at as u16)));
     }
-    Ok(0)
+    Ok(())
 }
 
 // An item's end: 60 where neither a comma nor the text's end is at the place.
-fn end_answer(text: &[u8], at: usize) -> Result<u32, Refusal>
+fn judge_end(text: &[u8], at: usize) -> Result<(), Refusal>
     requires { (at ≤ length text.now) × (length text.now ≤ most_list_text) }
-    ensures { result ≡ first_broken 0 (end_rules at (up_to is_comma (drop at text.now))) }
+    ensures { result ≡ given tt (first_broken 0 (end_rules at (up_to is_comma (drop at text.now)))) }
 {
-    if text.len() <= at {
-        return Ok(0);
-    }
-    let byte = text[at];
-    if byte == b',' {
-        return Ok(0);
+    let Some(byte) = text.get(at) else {
+        return Ok(());
+    };
+    if *byte == b',' {
+        return Ok(());
     }
     Err(Refusal::OfList(ListCause::ListShape(at as u16)))
 }
 
 // The second number of a range, and the item's end: 60, 61, and 62 where it is below the first.
-fn take_last(text: &[u8], at: usize, first: u32) -> ItemTaken
+fn take_last(text: &[u8], at: usize, first: u32) -> Result<ItemTaken, Refusal>
     requires { (at ≤ length text.now) × (length text.now ≤ most_list_text) }
     ensures { TakesLast first (drop at text.now) at result }
 {
     let digits = take_digits(text, at);
     let last = digits.value;
     let next = digits.next;
-    let answer = number_answer(at, next - at, last);
-    if let Err(cause) = answer {
-        return refused_item(cause);
-    }
+    judge_number(at, next - at, last)?;
     if last < first {
-        return refused_item(Refusal::OfList(ListCause::ListRange(at as u16)));
+        return Err(Refusal::OfList(ListCause::ListRange(at as u16)));
     }
-    ItemTaken {
-        answer: end_answer(text, next),
-        first,
-        last,
-        next,
-    }
+    judge_end(text, next)?;
+    Ok(ItemTaken { first, last, next })
 }
 
 // The item at a place: a number alone, or a range.
-fn take_item(text: &[u8], at: usize) -> ItemTaken
+fn take_item(text: &[u8], at: usize) -> Result<ItemTaken, Refusal>
     requires { (at ≤ length text.now) × (length text.now ≤ most_list_text) }
     ensures { TakesItem (drop at text.now) at result }
 {
     let digits = take_digits(text, at);
     let first = digits.value;
     let next = digits.next;
-    let answer = number_answer(at, next - at, first);
-    if let Err(cause) = answer {
-        return refused_item(cause);
-    }
+    judge_number(at, next - at, first)?;
     if dash_at(text, next) {
         return take_last(text, next + 1, first);
     }
-    ItemTaken {
-        answer: end_answer(text, next),
+    judge_end(text, next)?;
+    Ok(ItemTaken {
         first,
         last: first,
         next,
-    }
+    })
 }
 
-// The items of a text, one behind each comma.
-fn take_items(text: &[u8]) -> ListReading
+// The set of a text's items, one behind each comma: each step is an item long, so no range counts it.
+fn take_items(text: &[u8]) -> Result<u64, Refusal>
     requires { length text.now ≤ most_list_text }
-    ensures { TakesItems text.now result }
+    ensures { result ≡ given (all_set text.now) (all_answer text.now) }
 {
     let mut set: u64 = 0;
     let mut at: usize = 0;
     while at <= text.len() {
-        let item = take_item(text, at);
-        let answer = item.answer;
-        if let Err(cause) = answer {
-            return ListReading {
-                answer: Err(cause),
-                set: 0,
-            };
-        }
-        let first = item.first;
-        let processors = span(first, item.last + 1 - first);
+        let item = take_item(text, at)?;
+        let processors = span(item.first, item.last + 1 - item.first);
         set = union(set, processors);
         at = item.next + 1;
     }
-    ListReading {
-        answer: Ok(0),
-        set,
-    }
+    Ok(set)
 }
 
-// The set that a list has: 65, then item by item 60, 61 and 62; the empty text is the empty set.
+// The set of a text: 65, then item by item 60, 61 and 62; the empty text is the empty set.
+fn take_list(text: &[u8]) -> Result<u64, Refusal>
+    ensures { result ≡ given (items_set (items_of text.now)) (list_answer text.now) }
+{
+    if text.len() > MOST_TEXT {
+        return Err(Refusal::OfList(ListCause::ListLength));
+    }
+    if text.is_empty() {
+        return Ok(0);
+    }
+    take_items(text)
+}
+
+// The set that a list has, and the answer.
 pub fn read_list(text: &[u8]) -> ListReading
     ensures { ReadsList text.now result }
 {
-    let size = text.len();
-    if size > MOST_TEXT {
-        return ListReading {
-            answer: Err(Refusal::OfList(ListCause::ListLength)),
+    match take_list(text) {
+        Ok(set) => ListReading { answer: Ok(0), set },
+        Err(refusal) => ListReading {
+            answer: Err(refusal),
             set: 0,
-        };
+        },
     }
-    if size == 0 {
-        return ListReading {
-            answer: Ok(0),
-            set: 0,
-        };
-    }
-    take_items(text)
 }

@@ -1,19 +1,17 @@
-use mathlib.Core.Path.{sym, ◌∙◌, subst}
+use mathlib.Core.Path.{sym, ◌∙◌}
 use mathlib.Core.Bool.{true, false}
 use native.Mathlib.Omega.{arith}
-use lib.ListN.{drop}
+use Rattle.model.proofs.Rules.{refused_given, done_given, handed_on}
 use Rattle.typed.proofs.Told.{digits_within}
-use Rattle.list.specs.Taken.{TakesItem}
-use Rattle.list.proofs.Taken.{dash_inside, dash_told, item_refused, alone_taken, range_taken}
+use Rattle.list.proofs.Taken.{dash_inside, dash_told, item_refused, alone_unended, alone_taken, range_taken}
 use Rattle.list.proofs.take_item.Goals as goal
 
-pub returns-in-Err : goal.returns-in-Err
-returns-in-Err c =
+pub returns-in_err-judge_number : goal.returns-in_err-judge_number
+returns-in_err-judge_number c =
     let a = c.args in
     let digits = c.take_digits-digits in
-    subst (TakesItem (drop a.at a.text.now) a.at) (sym c.refused_item.ensures)
-    (item_refused a.text.now a.at digits.result.value digits.result.next digits.ensures.0 digits.ensures.1 _
-    (sym c.number_answer-answer.ensures ∙ c.in-Err.is))
+    let passed = handed_on c.from_residual.result c.from_residual.ensures.1 in
+    rw passed (item_refused a.text.now a.at digits.result.value digits.result.next digits.ensures.0 digits.ensures.1 _ (refused_given tt _ (sym c.judge_number.ensures ∙ c.in_err-judge_number.was)))
 
 pub overflow_add-next : goal.overflow_add-next
 overflow_add-next c =
@@ -32,21 +30,31 @@ pub returns-then-dash_at : goal.returns-then-dash_at
 returns-then-dash_at c =
     let a = c.args in
     let digits = c.take_digits-digits in
+    let number = done_given tt _ (sym c.judge_number.ensures ∙ c.in_ok-judge_number.was) in
     let dashed = dash_told a.text.now a.at digits.result.value digits.result.next digits.ensures.0 digits.ensures.1 true (sym c.dash_at.ensures ∙ c.if-dash_at.true) in
-    range_taken a.text.now a.at digits.result.value digits.result.next digits.ensures.0 digits.ensures.1 _ c.take_last.result
-    (sym c.number_answer-answer.ensures ∙ c.in_default.is) dashed c.take_last.ensures
+    range_taken a.text.now a.at digits.result.value digits.result.next digits.ensures.0 digits.ensures.1 number.0 c.take_last.result number.1 dashed c.take_last.ensures
 
-pub end_answer-requires : goal.end_answer-requires
-end_answer-requires c =
+pub judge_end-requires : goal.judge_end-requires
+judge_end-requires c =
     let a = c.args in
     let pre = c.requires in
     let inside = digits_within a.text.now a.at pre.0 in
     (omega (arith, c.take_digits-digits.ensures.1, inside), pre.1)
 
+pub returns-in_err-judge_end : goal.returns-in_err-judge_end
+returns-in_err-judge_end c =
+    let a = c.args in
+    let digits = c.take_digits-digits in
+    let number = done_given tt _ (sym c.judge_number.ensures ∙ c.in_ok-judge_number.was) in
+    let alone = dash_told a.text.now a.at digits.result.value digits.result.next digits.ensures.0 digits.ensures.1 false (sym c.dash_at.ensures ∙ c.if-dash_at.false) in
+    let passed = handed_on c.from_residual-in_err-judge_end.result c.from_residual-in_err-judge_end.ensures.1 in
+    rw passed (alone_unended a.text.now a.at digits.result.value digits.result.next digits.ensures.0 digits.ensures.1 number.0 number.1 alone _ (refused_given tt _ (sym c.judge_end.ensures ∙ c.in_err-judge_end.was)))
+
 pub returns : goal.returns
 returns c =
     let a = c.args in
     let digits = c.take_digits-digits in
+    let number = done_given tt _ (sym c.judge_number.ensures ∙ c.in_ok-judge_number.was) in
+    let end = done_given tt _ (sym c.judge_end.ensures ∙ c.in_ok-judge_end.was) in
     let alone = dash_told a.text.now a.at digits.result.value digits.result.next digits.ensures.0 digits.ensures.1 false (sym c.dash_at.ensures ∙ c.if-dash_at.false) in
-    alone_taken a.text.now a.at digits.result.value digits.result.next digits.ensures.0 digits.ensures.1 _ c.end_answer.result
-    (sym c.number_answer-answer.ensures ∙ c.in_default.is) alone c.end_answer.ensures
+    alone_taken a.text.now a.at digits.result.value digits.result.next digits.ensures.0 digits.ensures.1 number.0 number.1 alone end.0 end.1

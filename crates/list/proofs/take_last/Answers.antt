@@ -1,36 +1,43 @@
-use mathlib.Core.Path.{sym, ◌∙◌, subst}
+use mathlib.Core.Path.{sym, ◌∙◌}
 use native.Mathlib.Omega.{arith}
-use lib.ListN.{drop}
+use Rattle.model.proofs.Rules.{refused_given, done_given, handed_on}
 use Rattle.typed.proofs.Told.{digits_within}
-use Rattle.list.specs.Taken.{TakesLast}
-use Rattle.list.proofs.Taken.{last_refused, last_below, last_taken}
+use Rattle.list.proofs.Taken.{last_refused, last_below, last_unended, last_taken}
 use Rattle.list.proofs.take_last.Goals as goal
 
-pub returns-in-Err : goal.returns-in-Err
-returns-in-Err c =
+pub returns-in_err-judge_number : goal.returns-in_err-judge_number
+returns-in_err-judge_number c =
     let a = c.args in
     let digits = c.take_digits-digits in
-    subst (TakesLast a.first (drop a.at a.text.now) a.at) (sym c.refused_item.ensures)
-    (last_refused a.text.now a.at a.first digits.result.value digits.result.next digits.ensures.0 digits.ensures.1 _ (sym c.number_answer-answer.ensures ∙ c.in-Err.is))
+    let passed = handed_on c.from_residual.result c.from_residual.ensures.1 in
+    rw passed (last_refused a.text.now a.at a.first digits.result.value digits.result.next digits.ensures.0 digits.ensures.1 _ (refused_given tt _ (sym c.judge_number.ensures ∙ c.in_err-judge_number.was)))
 
 pub returns-then-last-first : goal.returns-then-last-first
 returns-then-last-first c =
     let a = c.args in
     let digits = c.take_digits-digits in
-    subst (TakesLast a.first (drop a.at a.text.now) a.at) (sym c.refused_item-then-last-first.ensures)
-    (last_below a.text.now a.at a.first digits.result.value digits.result.next digits.ensures.0 digits.ensures.1 _
-    (sym c.number_answer-answer.ensures ∙ c.in_default.is) c.if-last-first.true)
+    let number = done_given tt _ (sym c.judge_number.ensures ∙ c.in_ok-judge_number.was) in
+    last_below a.text.now a.at a.first digits.result.value digits.result.next digits.ensures.0 digits.ensures.1 number.0 number.1 c.if-last-first.true
 
-pub end_answer-requires : goal.end_answer-requires
-end_answer-requires c =
+pub judge_end-requires : goal.judge_end-requires
+judge_end-requires c =
     let a = c.args in
     let pre = c.requires in
     let inside = digits_within a.text.now a.at pre.0 in
     (omega (arith, c.take_digits-digits.ensures.1, inside), pre.1)
 
+pub returns-in_err-judge_end : goal.returns-in_err-judge_end
+returns-in_err-judge_end c =
+    let a = c.args in
+    let digits = c.take_digits-digits in
+    let number = done_given tt _ (sym c.judge_number.ensures ∙ c.in_ok-judge_number.was) in
+    let passed = handed_on c.from_residual-in_err-judge_end.result c.from_residual-in_err-judge_end.ensures.1 in
+    rw passed (last_unended a.text.now a.at a.first digits.result.value digits.result.next digits.ensures.0 digits.ensures.1 number.0 number.1 c.if-last-first.false _ (refused_given tt _ (sym c.judge_end.ensures ∙ c.in_err-judge_end.was)))
+
 pub returns : goal.returns
 returns c =
     let a = c.args in
     let digits = c.take_digits-digits in
-    last_taken a.text.now a.at a.first digits.result.value digits.result.next digits.ensures.0 digits.ensures.1 _ c.end_answer.result
-    (sym c.number_answer-answer.ensures ∙ c.in_default.is) c.if-last-first.false c.end_answer.ensures
+    let number = done_given tt _ (sym c.judge_number.ensures ∙ c.in_ok-judge_number.was) in
+    let end = done_given tt _ (sym c.judge_end.ensures ∙ c.in_ok-judge_end.was) in
+    last_taken a.text.now a.at a.first digits.result.value digits.result.next digits.ensures.0 digits.ensures.1 number.0 number.1 c.if-last-first.false end.0 end.1
