@@ -1,5 +1,5 @@
 -- Whatever the planner writes, the check accepts: the build that first fit gives keeps every rule of the check.
-use Rattle.std.specs.Prelude.{Ok}
+use Rattle.std.specs.Prelude.{Result, Ok}
 use Prim.Native.Nat.{ℕ, ◌<◌}
 use mathlib.Core.Path.{◌≡◌, sym, ap, ◌∙◌, subst}
 use mathlib.Core.List.{List, [], ◌++◌, append-nil}
@@ -10,6 +10,7 @@ use lib.Seq.{take_at}
 use Rattle.laws.proofs.Filled.{length-filled}
 use Rattle.model.specs.declared.order.Order.{Order}
 use Rattle.model.specs.declared.build.Build.{Build}
+use Rattle.model.specs.declared.answer.Refusal.{Refusal}
 use Rattle.model.specs.Kinds.{Answer}
 use Rattle.model.specs.Limits.{most_tasks, zero_member}
 use Rattle.model.specs.Processors.{volume_of, processor_of, AmongLowest}
@@ -26,8 +27,7 @@ use Rattle.fitting.specs.declared.Placing.{Placing}
 use Rattle.fitting.specs.Steps.{going_on, refusing, first_fit}
 use Rattle.fitting.specs.Claims.{Placed}
 use Rattle.fitting.proofs.Claims.{places, one_of_two}
-use Rattle.fit.specs.declared.records.Fitted.{Fitted}
-use Rattle.fit.specs.Recorded.{recorded_as, build_of, fitted_of}
+use Rattle.fit.specs.Recorded.{recorded_as, build_of, fitted_of, build_in}
 use Rattle.fit.specs.Claims.{Built}
 use Rattle.fit.proofs.Built.{built, fitted_done, fitted_refused}
 use Rattle.fit.proofs.Fields.{built_fits}
@@ -146,17 +146,17 @@ module _ (order : List ℕ) (rules : AllPass (order_rules order)) (s : Placing) 
   checked = accepted_done order (build_bytes b) order_right layout_right (subst (λ (x : Build). AcceptedBuild o x) (sym holds.build) accepted)
 
 -- the same of whatever first fit gives
-fitted_checked : (order : List ℕ) → AllPass (order_rules order) → (done : ℕ) → (fitted_of (order_at order)).answer ≡ Ok done → check_answer order (build_bytes (fitted_of (order_at order)).build) ≡ Ok 0
-fitted_checked order rules done e = go (one_of_two (order_at order) (within_limits order rules))
+fitted_checked : (order : List ℕ) → AllPass (order_rules order) → (build : Build) → fitted_of (order_at order) ≡ Ok build → check_answer order (build_bytes (build_in (fitted_of (order_at order)))) ≡ Ok 0
+fitted_checked order rules build e = go (one_of_two (order_at order) (within_limits order rules))
   where
-    go : ((s : Placing) × (first_fit (order_at order) ≡ going_on s)) ⊎ ((s : Placing) × ((i : ℕ) × (first_fit (order_at order) ≡ refusing s i))) → check_answer order (build_bytes (fitted_of (order_at order)).build) ≡ Ok 0
-    go (inl (s, f)) = subst (λ (x : Fitted). check_answer order (build_bytes x.build) ≡ Ok 0) (sym (fitted_done (order_at order) s f)) (checked order rules s f)
-    go (inr (s, (i, f))) = never (sym (ap (λ (x : Fitted). x.answer) (fitted_refused (order_at order) s i f)) ∙ e)
+    go : ((s : Placing) × (first_fit (order_at order) ≡ going_on s)) ⊎ ((s : Placing) × ((i : ℕ) × (first_fit (order_at order) ≡ refusing s i))) → check_answer order (build_bytes (build_in (fitted_of (order_at order)))) ≡ Ok 0
+    go (inl (s, f)) = subst (λ (x : Result Build Refusal). check_answer order (build_bytes (build_in x)) ≡ Ok 0) (sym (fitted_done (order_at order) s f)) (checked order rules s f)
+    go (inr (s, (i, f))) = absurd (cc (sym (fitted_refused (order_at order) s i f) ∙ e))
 
 pub planned_is_accepted : PlannedIsAccepted
 planned_is_accepted order output answer after count p e =
     let rules = order_rules_lem order output answer after count p e in
     let done = fit_done order output answer after count p e in
-    let b = (fitted_of (order_at order)).build in
+    let b = (build_in (fitted_of (order_at order))) in
     let front : after ≡ build_bytes b ++ drop count output = p.written ∙ ap (λ (a : Answer). output_after a (build_bytes b) output) e ∙ after_done count (build_bytes b) output in
     rw (front, take_at (build_bytes b) (drop count output) count (length_right b ∙ sym (counted order output answer after count p e))) (fitted_checked order rules done.0 done.1)

@@ -1,34 +1,30 @@
 -- The build that first fit records: its ranks and responses are those of the placing that it was recorded from.
-use Rattle.std.specs.Prelude.{Ok, Err}
+use Rattle.std.specs.Prelude.{Result, Ok, Err}
 use mathlib.Core.Path.{◌≡◌, refl, sym, ap, ap₂, ◌∙◌, subst}
 use mathlib.Core.List.{List}
 use mathlib.Core.Logic.{◌⊎◌, inl, inr}
 use Prim.Native.Nat.{ℕ, ◌≤◌, ◌<◌}
-use native.Mathlib.Omega.{arith}
 use lib.Dec.{eqb}
 use Rattle.laws.specs.Joined.{filled}
 use Rattle.laws.proofs.Filled.{filled_in, filled_past}
 use Rattle.model.specs.declared.order.Order.{Order}
 use Rattle.model.specs.declared.build.Member.{Member}
 use Rattle.model.specs.declared.build.Build.{Build}
-use Rattle.model.specs.Kinds.{Answer}
 use Rattle.model.specs.declared.answer.Refusal.{Refusal}
 use Rattle.model.specs.declared.answer.Refusal.TheVariants.{OfCall}
 use Rattle.model.specs.declared.answer.CallCause.TheVariants.{FirstFit}
-use Rattle.model.specs.Limits.{most_tasks, zero_member, member_of, home_of, empty_build}
+use Rattle.model.specs.Limits.{most_tasks, zero_member, member_of, home_of}
 use Rattle.model.specs.Rules.{WithinLimits}
 use Rattle.demand.specs.Priority.{members_of}
 use Rattle.demand.specs.Test.{response_of}
 use Rattle.demand.proofs.Membership.{rank_same, verdict_same}
 use Rattle.turns.specs.Turns.{home_at}
 use Rattle.fitting.specs.declared.Placing.{Placing}
-use Rattle.fitting.specs.declared.Outcome.{Outcome}
-use Rattle.fitting.specs.Steps.{going_on, refusing, living_in, first_fit}
+use Rattle.fitting.specs.Steps.{Outcome, going_on, refusing, told, living_in, first_fit}
 use Rattle.fitting.specs.Claims.{Placed, RefusedIn}
 use Rattle.fitting.proofs.Claims.{refuses, one_of_two, first_fit_places}
 use Rattle.fitting.proofs.Turning.{refused_says}
-use Rattle.fit.specs.declared.records.Fitted.{Fitted}
-use Rattle.fit.specs.Recorded.{recorded_as, build_of, fitted_by, recorded, fitted_of}
+use Rattle.fit.specs.Recorded.{recorded_as, build_of, recorded, fitted_of}
 use Rattle.fit.specs.Claims.{Built, FittedIsBuilt, FittedIsRefused, RefusedIsFitted}
 
 module _ (o : Order) where
@@ -41,33 +37,26 @@ module _ (o : Order) where
   unfolding build_of
   member_past s i l = filled_past (recorded_as o s.homes) zero_member most_tasks o.tasks i l
 
-  pub fitted_done : (s : Placing) → first_fit o ≡ going_on s → fitted_of o ≡ record { answer = Ok 0; build = build_of o s }
+  pub fitted_done : (s : Placing) → first_fit o ≡ going_on s → fitted_of o ≡ Ok (build_of o s)
   unfolding fitted_of recorded
-  fitted_done s e = ap (recorded o) e
+  fitted_done s e = ap (λ (x : Outcome). recorded o (told x)) e
 
-  pub fitted_refused : (s : Placing) (i : ℕ) → first_fit o ≡ refusing s i → fitted_of o ≡ record { answer = Err (OfCall (FirstFit i)); build = empty_build }
+  pub fitted_refused : (s : Placing) (i : ℕ) → first_fit o ≡ refusing s i → fitted_of o ≡ Err (OfCall (FirstFit i))
   unfolding fitted_of recorded
-  fitted_refused s i e = ap (recorded o) e
+  fitted_refused s i e = ap (λ (x : Outcome). recorded o (told x)) e
 
   -- by the answer of the turns
-  module _ (r : Outcome) (is : r ≡ first_fit o) where
-    pub recorded_refused : (cause : Refusal) → r.answer ≡ Err cause → record { answer = Err cause; build = empty_build } ≡ fitted_of o
+  module _ (r : Result Placing Refusal) (is : r ≡ told (first_fit o)) where
+    pub recorded_refused : (cause : Refusal) → r ≡ Err cause → Err cause ≡ fitted_of o
     unfolding fitted_of recorded
-    recorded_refused cause e = ap (λ (a : Answer). fitted_by a (build_of o r.placing)) (sym e) ∙ ap (recorded o) is
+    recorded_refused cause e = ap (recorded o) (sym e ∙ is)
 
-    pub recorded_done : (count : ℕ) (members : List Member) → r.answer ≡ Ok count → members ≡ filled (recorded_as o r.placing.homes) zero_member most_tasks o.tasks
-        → record { answer = Ok 0; build = record { processors = o.processors; tasks = o.tasks; partitions = r.placing.opened; places = r.placing.places; members = members } } ≡ fitted_of o
+    pub recorded_done : (s : Placing) (members : List Member) → r ≡ Ok s → members ≡ filled (recorded_as o s.homes) zero_member most_tasks o.tasks
+        → Ok (record { processors = o.processors; tasks = o.tasks; partitions = s.opened; places = s.places; members = members }) ≡ fitted_of o
     unfolding fitted_of recorded build_of
-    recorded_done count members e f =
-        ap (λ (xs : List Member). record { answer = Ok 0; build = record { processors = o.processors; tasks = o.tasks; partitions = r.placing.opened; places = r.placing.places; members = xs } }) f
-        ∙ ap (λ (a : Answer). fitted_by a (build_of o r.placing)) (sym e) ∙ ap (recorded o) is
-
-done_not_refused : {A : Type 0} (a b : Build) (count : ℕ) (cause : Refusal) →
-    ◌≡◌ {A = Fitted} (record { answer = Ok count; build = a }) (record { answer = Err cause; build = b }) → A
-done_not_refused a b count cause e =
-    let f : Ok count ≡ Err cause = ap (λ (x : Fitted). x.answer) e in
-    let z : ◌≡◌ {A = ℕ} 0 1 = cc f in
-    absurd (omega arith)
+    recorded_done s members e f =
+        ap (λ (xs : List Member). Ok (record { processors = o.processors; tasks = o.tasks; partitions = s.opened; places = s.places; members = xs })) f
+        ∙ ap (recorded o) (sym e ∙ is)
 
 module _ (o : Order) (limits : WithinLimits o) where
   -- the build of a placing of all tasks
@@ -99,22 +88,19 @@ module _ (o : Order) (limits : WithinLimits o) where
       all = first_fit_places o s limits e
 
 pub fitted_is_built : FittedIsBuilt
-fitted_is_built o b count limits e = go (one_of_two o limits)
+fitted_is_built o b limits e = go (one_of_two o limits)
   where
     go : ((s : Placing) × (first_fit o ≡ going_on s)) ⊎ ((s : Placing) × ((i : ℕ) × (first_fit o ≡ refusing s i))) → Built o b
-    go (inl (s, f)) = subst (Built o) (ap (λ (x : Fitted). x.build) (sym (fitted_done o s f) ∙ e)) (built o limits s f)
-    go (inr (s, (i, f))) = done_not_refused b empty_build count (OfCall (FirstFit i)) (sym e ∙ fitted_refused o s i f)
+    go (inl (s, f)) = let same : build_of o s ≡ b = cc (sym (fitted_done o s f) ∙ e) in subst (Built o) same (built o limits s f)
+    go (inr (s, (i, f))) = absurd (cc (sym e ∙ fitted_refused o s i f))
 
 pub fitted_is_refused : FittedIsRefused
-fitted_is_refused o b cause limits e = go (one_of_two o limits)
+fitted_is_refused o cause limits e = go (one_of_two o limits)
   where
     go : ((s : Placing) × (first_fit o ≡ going_on s)) ⊎ ((s : Placing) × ((i : ℕ) × (first_fit o ≡ refusing s i))) →
-        (b ≡ empty_build) × ((s : Placing) × ((i : ℕ) × (cause ≡ OfCall (FirstFit i)) × RefusedIn o s i))
-    go (inl (s, f)) = done_not_refused (build_of o s) b 0 cause (sym (fitted_done o s f) ∙ e)
-    go (inr (s, (i, f))) =
-        let same : ◌≡◌ {A = Fitted} (record { answer = Err cause; build = b }) (record { answer = Err (OfCall (FirstFit i)); build = empty_build }) = sym e ∙ fitted_refused o s i f in
-        let answers : Err cause ≡ Err (OfCall (FirstFit i)) = ap (λ (x : Fitted). x.answer) same in
-        (ap (λ (x : Fitted). x.build) same, (s, (i, cc answers, refuses o limits s i f)))
+        (s : Placing) × ((i : ℕ) × (cause ≡ OfCall (FirstFit i)) × RefusedIn o s i)
+    go (inl (s, f)) = absurd (cc (sym (fitted_done o s f) ∙ e))
+    go (inr (s, (i, f))) = (s, (i, cc (sym e ∙ fitted_refused o s i f), refuses o limits s i f))
 
 pub refused_is_fitted : RefusedIsFitted
 refused_is_fitted o s i limits is = fitted_refused o s i (refused_says o limits s i is)

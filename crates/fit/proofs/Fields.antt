@@ -1,9 +1,11 @@
 -- The numbers of the build fit their fields.
+use Rattle.std.specs.Prelude.{Result}
 use mathlib.Core.Path.{◌≡◌, sym, subst}
 use mathlib.Core.Logic.{◌⊎◌, inl, inr}
 use Prim.Native.Nat.{ℕ, ◌<◌}
 use native.Mathlib.Omega.{arith}
 use Rattle.model.specs.declared.order.Order.{Order}
+use Rattle.model.specs.declared.answer.Refusal.{Refusal}
 use Rattle.model.specs.declared.build.Build.{Build}
 use Rattle.model.specs.Limits.{empty_build, member_of, home_of}
 use Rattle.model.specs.Processors.{volume_of}
@@ -15,8 +17,7 @@ use Rattle.demand.proofs.Meaning.{every_verdict_means}
 use Rattle.fitting.specs.declared.Placing.{Placing}
 use Rattle.fitting.specs.Steps.{going_on, refusing, first_fit}
 use Rattle.fitting.proofs.Claims.{one_of_two}
-use Rattle.fit.specs.declared.records.Fitted.{Fitted}
-use Rattle.fit.specs.Recorded.{fitted_of, build_of}
+use Rattle.fit.specs.Recorded.{fitted_of, build_of, build_in}
 use Rattle.fit.specs.Claims.{Built, FittedFitsFields}
 use Rattle.fit.proofs.Built.{built, fitted_done, fitted_refused}
 
@@ -56,6 +57,6 @@ empty_fits =
 pub fitted_fits_fields : FittedFitsFields
 fitted_fits_fields o limits = go (one_of_two o limits)
   where
-    go : ((s : Placing) × (first_fit o ≡ going_on s)) ⊎ ((s : Placing) × ((i : ℕ) × (first_fit o ≡ refusing s i))) → FieldsFit (fitted_of o).build
-    go (inl (s, e)) = subst (λ (x : Fitted). FieldsFit x.build) (sym (fitted_done o s e)) (built_fits o (build_of o s) limits (built o limits s e))
-    go (inr (s, (i, e))) = subst (λ (x : Fitted). FieldsFit x.build) (sym (fitted_refused o s i e)) empty_fits
+    go : ((s : Placing) × (first_fit o ≡ going_on s)) ⊎ ((s : Placing) × ((i : ℕ) × (first_fit o ≡ refusing s i))) → FieldsFit (build_in (fitted_of o))
+    go (inl (s, e)) = subst (λ (x : Result Build Refusal). FieldsFit (build_in x)) (sym (fitted_done o s e)) (built_fits o (build_of o s) limits (built o limits s e))
+    go (inr (s, (i, e))) = subst (λ (x : Result Build Refusal). FieldsFit (build_in x)) (sym (fitted_refused o s i e)) empty_fits

@@ -1,5 +1,5 @@
 -- The turns, as the code takes them: before, in and after its loop.
-use Rattle.std.specs.Prelude.{Ok, Err}
+use Rattle.std.specs.Prelude.{Result, Ok, Err}
 use mathlib.Core.Path.{◌≡◌, refl, sym, ap, ap₂, ◌∙◌, subst}
 use mathlib.Core.Bool.{true, not}
 use mathlib.Core.List.{List}
@@ -16,9 +16,8 @@ use Rattle.model.specs.Rules.{WithinLimits}
 use Rattle.roster.proofs.Lining.{lined_none}
 use Rattle.turns.specs.Turns.{unplaced, home_at, is_unplaced}
 use Rattle.fitting.specs.declared.Placing.{Placing}
-use Rattle.fitting.specs.declared.Outcome.{Outcome}
-use Rattle.fitting.specs.Steps.{nothing_placed, going_on, turns_taken, first_fit}
-use Rattle.fitting.proofs.Turning.{steps_none, steps_end, steps_next}
+use Rattle.fitting.specs.Steps.{nothing_placed, told, turn_taken, turns_taken, first_fit}
+use Rattle.fitting.proofs.Turning.{told_on, steps_none, steps_on, steps_end}
 use Rattle.fitting.proofs.Claims.{start}
 use Rattle.fit.specs.Taking.{Lines, Taken, AllTaken}
 
@@ -56,31 +55,30 @@ module _ (o : Order) (limits : WithinLimits o) where
       }
 
   module _ (s : Placing) (placed : ℕ) (keys lasts worsts : List ℕ) (is : Between s placed keys lasts worsts) where
-    pub all_done : o.tasks ≤ placed → (r : Outcome) → r ≡ going_on s → AllTaken o r keys worsts
-    all_done le r e =
+    pub all_done : o.tasks ≤ placed → AllTaken o (Ok s) keys worsts
+    all_done le =
         let all : placed ≡ o.tasks = omega (arith, is.upto) in
         let none : o.tasks - placed ≡ 0 = omega arith in
         record {
-          answer = e ∙ sym (steps_none o s) ∙ ap (λ (k : ℕ). turns_taken o k s) (sym none) ∙ is.others;
-          lines = λ count done. (lasts, subst (λ (x : Outcome). Lines o x.placing o.tasks keys lasts worsts) (sym e) (subst (λ (k : ℕ). Lines o s k keys lasts worsts) all is.lines));
+          answer = ap told (sym (steps_none o s) ∙ ap (λ (k : ℕ). turns_taken o k s) (sym none) ∙ is.others);
+          lines = λ t done. (lasts, (let same : s ≡ t = cc done in subst (λ (x : Placing). Lines o x o.tasks keys lasts worsts) same (subst (λ (k : ℕ). Lines o s k keys lasts worsts) all is.lines)));
         }
 
-    module _ (early : placed < o.tasks) (r : Outcome) (keys' lasts' worsts' : List ℕ) (taken : Taken o s placed r keys' lasts' worsts') where
+    module _ (early : placed < o.tasks) (r : Result Placing Refusal) (keys' lasts' worsts' : List ℕ) (taken : Taken o s placed r keys' lasts' worsts') where
       left : o.tasks - placed ≡ suc (o.tasks - (placed + 1))
       left = omega arith
 
-      pub one_refused : (cause : Refusal) → r.answer ≡ Err cause → AllTaken o r keys' worsts'
+      pub one_refused : (cause : Refusal) → r ≡ Err cause → AllTaken o (Err cause) keys' worsts'
       one_refused cause e =
           record {
-            answer = taken.answer ∙ sym (steps_end o (o.tasks - (placed + 1)) s cause (ap (λ (x : Outcome). x.answer) (sym taken.answer) ∙ e)) ∙ ap (λ (k : ℕ). turns_taken o k s) (sym left) ∙ is.others;
-            lines = λ count done. (let f : Err cause ≡ Ok count = sym e ∙ done in let z : ◌≡◌ {A = ℕ} 0 1 = cc f in absurd (omega arith));
+            answer = sym (steps_end o (o.tasks - (placed + 1)) s cause (sym taken.answer ∙ e)) ∙ ap told (ap (λ (k : ℕ). turns_taken o k s) (sym left) ∙ is.others);
+            lines = λ t done. absurd (cc done);
           }
 
-      pub one_more : (count : ℕ) → r.answer ≡ Ok count → Between r.placing (placed + 1) keys' lasts' worsts'
-      one_more count e =
-          let same = ap (λ (x : Outcome). x.placing) taken.answer in
+      pub one_more : (t : Placing) → r ≡ Ok t → Between t (placed + 1) keys' lasts' worsts'
+      one_more t e =
           record {
             upto = omega arith;
-            lines = taken.lines count e;
-            others = ap (turns_taken o (o.tasks - (placed + 1))) same ∙ sym (steps_next o (o.tasks - (placed + 1)) s count (ap (λ (x : Outcome). x.answer) (sym taken.answer) ∙ e)) ∙ ap (λ (k : ℕ). turns_taken o k s) (sym left) ∙ is.others;
+            lines = taken.lines t e;
+            others = sym (steps_on o (o.tasks - (placed + 1)) s t (told_on (turn_taken o s) t (sym taken.answer ∙ e))) ∙ ap (λ (k : ℕ). turns_taken o k s) (sym left) ∙ is.others;
           }

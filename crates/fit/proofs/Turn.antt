@@ -1,5 +1,5 @@
 -- One turn: what comes of it, by the partition that takes the task, or that none does.
-use Rattle.std.specs.Prelude.{Ok, Err, Some, None, Option}
+use Rattle.std.specs.Prelude.{Result, Ok, Some, None, Option}
 use mathlib.Core.Path.{◌≡◌, refl, sym, ap, ◌∙◌, subst}
 use mathlib.Core.Bool.{true, false, not}
 use mathlib.Core.List.{List}
@@ -13,8 +13,7 @@ use Rattle.laws.specs.Joined.{overlaid}
 use Rattle.laws.proofs.Every.{clash}
 use Rattle.laws.proofs.Overlaid.{overlaid_in, length-overlaid}
 use Rattle.model.specs.declared.order.Order.{Order}
-use Rattle.model.specs.declared.answer.Refusal.TheVariants.{OfCall}
-use Rattle.model.specs.declared.answer.CallCause.TheVariants.{FirstFit}
+use Rattle.model.specs.declared.answer.Refusal.{Refusal}
 use Rattle.model.specs.Limits.{most_tasks}
 use Rattle.search.proofs.First.{Firstly, first_says}
 use Rattle.demand.specs.Priority.{deadline_of}
@@ -29,8 +28,7 @@ use Rattle.turns.specs.Turns.{width_of, unplaced, home_at, is_unplaced, next_tas
 use Rattle.turns.specs.Claims.{IsNext}
 use Rattle.turns.proofs.Turns.{next_is, none_next}
 use Rattle.fitting.specs.declared.Placing.{Placing}
-use Rattle.fitting.specs.declared.Outcome.{Outcome}
-use Rattle.fitting.specs.Steps.{put, open_next, going_on, refusing, living_in, accepts, lowest_accepting, opening}
+use Rattle.fitting.specs.Steps.{put, open_next, refusing, told, living_in, accepts, lowest_accepting, opening}
 use Rattle.fitting.proofs.Put.{one_waits, put_here, put_other, put_placed, put-unplaced, living_kept}
 use Rattle.fitting.proofs.Standing.{stands_accepted, stands_opened, alone_there}
 use Rattle.fitting.proofs.Turning.{widths, step-put, step_open, step_refuse, opening_new, opening_none}
@@ -45,7 +43,7 @@ module _ (o : Order) (table : List ℕ) (s : Placing) (placed : ℕ) (keys lasts
   pub few_tasks : o.tasks ≤ 32
   few_tasks = t.limits.tasks.1
 
-  pub idle_turn : (r : Outcome) → next_task o homes o.tasks ≡ None → r ≡ going_on s → (keys' lasts' worsts' : List ℕ) → Taken o s placed r keys' lasts' worsts'
+  pub idle_turn : (r : Result Placing Refusal) → next_task o homes o.tasks ≡ None → r ≡ Ok s → (keys' lasts' worsts' : List ℕ) → Taken o s placed r keys' lasts' worsts'
   idle_turn r none e keys' lasts' worsts' =
       let one = one_waits homes o.tasks (omega (arith, t.lines.stands.numbered.count, t.early)) in
       clash (sym (none_next o homes o.tasks none one.0 one.1) ∙ one.2)
@@ -113,22 +111,22 @@ module _ (o : Order) (table : List ℕ) (s : Placing) (placed : ℕ) (keys lasts
       keys_then = ap (λ (xs : List ℕ). length xs) put_in ∙ length-overlaid (with_key key keys placed) keys (placed + 1) (omega (arith, t.lines.key_places, t.early, few_tasks)) ∙ t.lines.key_places
 
     -- an open partition takes it
-    pub seated : (k key : ℕ) (found : Option ℕ) (keys' lasts' worsts' : List ℕ) (r : Outcome) → Lowest table keys placed lasts worsts i trying s.opened found lasts' worsts' → found ≡ Some k
-        → key ≡ key_of k (word_at table i 3) i → keys' ≡ overlaid (with_key key keys placed) (placed + 1) keys → r ≡ going_on (put s i k) → Taken o s placed r keys' lasts' worsts'
+    pub seated : (k key : ℕ) (found : Option ℕ) (keys' lasts' worsts' : List ℕ) (r : Result Placing Refusal) → Lowest table keys placed lasts worsts i trying s.opened found lasts' worsts' → found ≡ Some k
+        → key ≡ key_of k (word_at table i 3) i → keys' ≡ overlaid (with_key key keys placed) (placed + 1) keys → r ≡ Ok (put s i k) → Taken o s placed r keys' lasts' worsts'
     unfolding lowest_accepting
     seated k key found keys' lasts' worsts' r is at key_is put_in e =
         let lowest : lowest_accepting o s i ≡ Some k = sym is.answer ∙ at in
         let first = subst (Firstly (accepts o homes i) s.opened) lowest (first_says (accepts o homes i) s.opened) in
         let few : k < unplaced = omega (arith, first.below, opened_few) in
         record {
-          answer = e ∙ sym (step-put o s i turn k lowest);
-          lines = λ count done. subst (λ (x : Outcome). Lines o x.placing (placed + 1) keys' lasts' worsts') (sym e)
+          answer = e ∙ ap told (sym (step-put o s i turn k lowest));
+          lines = λ next_one done. (let same : put s i k ≡ next_one = cc (sym e ∙ done) in subst (λ (x : Placing). Lines o x (placed + 1) keys' lasts' worsts') same
               (record {
                 stands = stands_accepted o t.limits (widths o t.limits) placed s t.lines.stands t.early i next k first.below first.holds;
                 key_places = keys_then k key few key_is keys' put_in;
                 line = line_then k key few key_is keys' put_in;
                 known = is.taken k at;
-              });
+              }));
         }
 
     -- none does: it stands alone in a new one
@@ -181,26 +179,25 @@ module _ (o : Order) (table : List ℕ) (s : Placing) (placed : ℕ) (keys lasts
             passing = passing_then;
           }
 
-      pub alone_seated : (key : ℕ) (found : Option ℕ) (keys' : List ℕ) (r : Outcome) → found ≡ lowest_accepting o s i → found ≡ None
-          → key ≡ key_of k (word_at table i 3) i → keys' ≡ overlaid (with_key key keys placed) (placed + 1) keys → r ≡ opening o s i → Taken o s placed r keys' lasts worsts'
+      pub alone_seated : (key : ℕ) (found : Option ℕ) (keys' : List ℕ) (r : Result Placing Refusal) → found ≡ lowest_accepting o s i → found ≡ None
+          → key ≡ key_of k (word_at table i 3) i → keys' ≡ overlaid (with_key key keys placed) (placed + 1) keys → r ≡ told (opening o s i) → Taken o s placed r keys' lasts worsts'
       alone_seated key found keys' r lowest none key_is put_in e = elim (dec_le (width_of o i) (o.processors - s.used)) [
-        | yes fits ↦ (let on : r ≡ going_on (put (open_next s (width_of o i)) i k) = e ∙ opening_new o s i fits in
+        | yes fits ↦ (let on : r ≡ Ok (put (open_next s (width_of o i)) i k) = e ∙ ap told (opening_new o s i fits) in
             record {
-              answer = on ∙ sym (step_open o s i turn (sym lowest ∙ none) fits);
-              lines = λ count done. subst (λ (x : Outcome). Lines o x.placing (placed + 1) keys' lasts worsts') (sym on)
+              answer = on ∙ ap told (sym (step_open o s i turn (sym lowest ∙ none) fits));
+              lines = λ next_one done. (let same : put (open_next s (width_of o i)) i k ≡ next_one = cc (sym on ∙ done) in subst (λ (x : Placing). Lines o x (placed + 1) keys' lasts worsts') same
                   (record {
                     stands = stands_opened o t.limits (widths o t.limits) placed s t.lines.stands t.early i next (omega (arith, t.lines.stands.laid.inside));
                     key_places = keys_then k key opened_few key_is keys' put_in;
                     line = line_then k key opened_few key_is keys' put_in;
                     known = known_then;
-                  });
+                  }));
             })
         | no short ↦ (let less : o.processors - s.used < width_of o i = omega arith in
-            let stop : r ≡ refusing s i = e ∙ opening_none o s i less in
+            let stop : r ≡ told (refusing s i) = e ∙ ap told (opening_none o s i less) in
             record {
-              answer = stop ∙ sym (step_refuse o s i turn (sym lowest ∙ none) less);
-              lines = λ count done. (let f : Err (OfCall (FirstFit i)) ≡ Ok count = ap (λ (x : Outcome). x.answer) (sym stop) ∙ done in
-                  let z : ◌≡◌ {A = ℕ} 0 1 = cc f in absurd (omega arith));
+              answer = stop ∙ ap told (sym (step_refuse o s i turn (sym lowest ∙ none) less));
+              lines = λ next_one done. absurd (cc (sym stop ∙ done));
             })
       ]
 
@@ -211,8 +208,8 @@ module _ (o : Order) (table : List ℕ) (s : Placing) (placed : ℕ) (keys lasts
         omega (arith, first.below, opened_few)
 
     -- none takes it, as the search leaves what is known
-    pub none_takes : (key : ℕ) (found : Option ℕ) (keys' lasts₁ worsts₁ : List ℕ) (r : Outcome) → Lowest table keys placed lasts worsts i trying s.opened found lasts₁ worsts₁ → found ≡ None
-        → key ≡ key_of s.opened (word_at table i 3) i → keys' ≡ overlaid (with_key key keys placed) (placed + 1) keys → r ≡ opening o s i
+    pub none_takes : (key : ℕ) (found : Option ℕ) (keys' lasts₁ worsts₁ : List ℕ) (r : Result Placing Refusal) → Lowest table keys placed lasts worsts i trying s.opened found lasts₁ worsts₁ → found ≡ None
+        → key ≡ key_of s.opened (word_at table i 3) i → keys' ≡ overlaid (with_key key keys placed) (placed + 1) keys → r ≡ told (opening o s i)
         → Taken o s placed r keys' lasts₁ (set worsts₁ i (word_at table i 1))
     unfolding lowest_accepting
     none_takes key found keys' lasts₁ worsts₁ r is none key_is put_in e =

@@ -200,6 +200,10 @@ module _ (keys worsts : List ℕ) (tasks : ℕ) (so : Recording keys worsts task
           untouched = λ j away. get_or-set_other members number j written_now zero_member (λ x. away place (omega arith) (sym x)) ∙ is.untouched j (λ r a. away r (omega arith));
         }
 
+    -- as the code writes it
+    pub filling_next : (h number' : ℕ) → h ≡ home_in (key_at keys place) → number' ≡ number → Filling keys worsts tasks (set members number' (record { partition = h; rank = place - first'; response = get_or worsts number' 0 })) first' h (place + 1)
+    filling_next h number' at there = rw (at, there) filling_more
+
   pub filling_all : (members : List Member) (first home place : ℕ) → Filling keys worsts tasks members first home place → tasks ≤ place
       → members ≡ filled (recorded_as so.order so.placing.homes) zero_member most_tasks so.order.tasks
   filling_all members first home place is le =

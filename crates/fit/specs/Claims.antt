@@ -5,14 +5,14 @@ use Rattle.model.specs.declared.build.Build.{Build}
 use Rattle.model.specs.declared.answer.Refusal.{Refusal}
 use Rattle.model.specs.declared.answer.Refusal.TheVariants.{OfCall}
 use Rattle.model.specs.declared.answer.CallCause.TheVariants.{FirstFit}
-use Rattle.model.specs.Limits.{zero_member, member_of, home_of, empty_build}
+use Rattle.model.specs.Limits.{zero_member, member_of, home_of}
 use Rattle.model.specs.Rules.{WithinLimits}
 use Rattle.build.specs.Build.{FieldsFit}
 use Rattle.demand.specs.Priority.{members_of, rank}
 use Rattle.demand.specs.Test.{verdict}
 use Rattle.fitting.specs.declared.Placing.{Placing}
 use Rattle.fitting.specs.Claims.{Placed, RefusedIn}
-use Rattle.fit.specs.Recorded.{fitted_of}
+use Rattle.fit.specs.Recorded.{fitted_of, build_in}
 
 -- the build of an order: every task placed, with its final rank and its worst response
 pub record Built (o : Order) (b : Build) : Type 0 where
@@ -25,18 +25,18 @@ pub record Built (o : Order) (b : Build) : Type 0 where
 
 -- "The build records the final ranks and worst responses."
 abbrev pub FittedIsBuilt : Type 0
-FittedIsBuilt = (o : Order) (b : Build) (count : ℕ) → WithinLimits o → fitted_of o ≡ record { answer = Ok count; build = b } → Built o b
+FittedIsBuilt = (o : Order) (b : Build) → WithinLimits o → fitted_of o ≡ Ok b → Built o b
 
--- "Else refuse, naming that task.": it is one of the order's, and the build is empty
+-- "Else refuse, naming that task.": it is one of the order's
 abbrev pub FittedIsRefused : Type 0
 FittedIsRefused =
-    (o : Order) (b : Build) (cause : Refusal) → WithinLimits o → fitted_of o ≡ record { answer = Err cause; build = b } →
-    (b ≡ empty_build) × ((s : Placing) × ((i : ℕ) × (cause ≡ OfCall (FirstFit i)) × RefusedIn o s i))
+    (o : Order) (cause : Refusal) → WithinLimits o → fitted_of o ≡ Err cause →
+    (s : Placing) × ((i : ℕ) × (cause ≡ OfCall (FirstFit i)) × RefusedIn o s i)
 
 -- and such a task is refused, whoever asks
 abbrev pub RefusedIsFitted : Type 0
-RefusedIsFitted = (o : Order) (s : Placing) (i : ℕ) → WithinLimits o → RefusedIn o s i → fitted_of o ≡ record { answer = Err (OfCall (FirstFit i)); build = empty_build }
+RefusedIsFitted = (o : Order) (s : Placing) (i : ℕ) → WithinLimits o → RefusedIn o s i → fitted_of o ≡ Err (OfCall (FirstFit i))
 
 -- "M 7, n 6, partition count p 7" and so on: every number of the build fits its field
 abbrev pub FittedFitsFields : Type 0
-FittedFitsFields = (o : Order) → WithinLimits o → FieldsFit (fitted_of o).build
+FittedFitsFields = (o : Order) → WithinLimits o → FieldsFit (build_in (fitted_of o))

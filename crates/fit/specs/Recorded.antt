@@ -1,18 +1,16 @@
 -- "The build records the final ranks and worst responses."
-use Rattle.std.specs.Prelude.{◌≡◌, List, ℕ, Ok, Err}
+use Rattle.std.specs.Prelude.{◌≡◌, List, ℕ, Result, Ok, Err}
 use Rattle.laws.specs.Joined.{filled}
 use Rattle.model.specs.declared.order.Order.{Order}
 use Rattle.model.specs.declared.build.Member.{Member}
 use Rattle.model.specs.declared.build.Build.{Build}
-use Rattle.model.specs.Kinds.{Answer}
+use Rattle.model.specs.declared.answer.Refusal.{Refusal}
 use Rattle.model.specs.Limits.{most_tasks, zero_member, empty_build}
 use Rattle.demand.specs.Priority.{rank}
 use Rattle.demand.specs.Test.{verdict, response_of}
 use Rattle.turns.specs.Turns.{home_at}
 use Rattle.fitting.specs.declared.Placing.{Placing}
-use Rattle.fitting.specs.declared.Outcome.{Outcome}
-use Rattle.fitting.specs.Steps.{living_in, first_fit}
-use Rattle.fit.specs.declared.records.Fitted.{Fitted}
+use Rattle.fitting.specs.Steps.{told, living_in, first_fit}
 
 -- task i with its partition, its rank there and its worst response
 unfoldable pub recorded_as : Order → List ℕ → ℕ → Member
@@ -30,17 +28,18 @@ build_of o s =
       members = filled (recorded_as o s.homes) zero_member most_tasks o.tasks;
     }
 
--- the build of a placing that went on to the end; an empty one where a task was refused
-abbrev pub fitted_by : Answer → Build → Fitted
-fitted_by (Ok count) build = record { answer = Ok 0; build = build }
-fitted_by (Err cause) build = record { answer = Err cause; build = empty_build }
+-- the build of a placing that went on to the end, or the refusal of the task where it stopped
+unfoldable pub recorded : Order → Result Placing Refusal → Result Build Refusal
+recorded o answer = elim answer [ Ok s ↦ Ok (build_of o s) | Err cause ↦ Err cause ]
 
-unfoldable pub recorded : Order → Outcome → Fitted
-recorded o outcome = fitted_by outcome.answer (build_of o outcome.placing)
+unfoldable pub fitted_of : Order → Result Build Refusal
+fitted_of o = recorded o (told (first_fit o))
 
-unfoldable pub fitted_of : Order → Fitted
-fitted_of o = recorded o (first_fit o)
+-- the build, an empty one where a task was refused
+abbrev pub build_in : Result Build Refusal → Build
+build_in (Ok build) = build
+build_in (Err cause) = empty_build
 
 -- what first fit promises
-abbrev pub FitsFirst : Order → Fitted → Type 0
+abbrev pub FitsFirst : Order → Result Build Refusal → Type 0
 FitsFirst o answer = answer ≡ fitted_of o

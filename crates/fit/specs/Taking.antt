@@ -1,14 +1,14 @@
 -- What is known before each turn: how the placing stands, the line of the placed tasks, and what is known of them. Inner definitions.
-use Rattle.std.specs.Prelude.{◌≡◌, List, ℕ, ◌+◌, ◌<◌, length, Ok}
+use Rattle.std.specs.Prelude.{◌≡◌, List, ℕ, ◌+◌, ◌<◌, length, Result, Ok}
 use Rattle.model.specs.declared.order.Order.{Order}
+use Rattle.model.specs.declared.answer.Refusal.{Refusal}
 use Rattle.laws.specs.Joined.{filled}
 use Rattle.model.specs.declared.build.Member.{Member}
 use Rattle.model.specs.Limits.{most_tasks, zero_member}
 use Rattle.model.specs.Rules.{WithinLimits}
 use Rattle.roster.specs.Rows.{RowsByNumber}
 use Rattle.fitting.specs.declared.Placing.{Placing}
-use Rattle.fitting.specs.declared.Outcome.{Outcome}
-use Rattle.fitting.specs.Steps.{turn_taken, first_fit}
+use Rattle.fitting.specs.Steps.{told, turn_taken, first_fit}
 use Rattle.fitting.specs.Standing.{Stands}
 use Rattle.placing.specs.Known.{Known, InLine}
 use Rattle.fit.specs.Recorded.{recorded_as}
@@ -27,14 +27,14 @@ pub record Taking (o : Order) (table : List ℕ) (s : Placing) (placed : ℕ) (k
   pub lines : Lines o s placed keys lasts worsts
 
 -- what comes of it
-pub record Taken (o : Order) (s : Placing) (placed : ℕ) (r : Outcome) (keys lasts worsts : List ℕ) : Type 0 where
-  pub answer : r ≡ turn_taken o s
-  pub lines : (count : ℕ) → r.answer ≡ Ok count → Lines o r.placing (placed + 1) keys lasts worsts
+pub record Taken (o : Order) (s : Placing) (placed : ℕ) (r : Result Placing Refusal) (keys lasts worsts : List ℕ) : Type 0 where
+  pub answer : r ≡ told (turn_taken o s)
+  pub lines : (t : Placing) → r ≡ Ok t → Lines o t (placed + 1) keys lasts worsts
 
 -- what comes of all turns
-pub record AllTaken (o : Order) (r : Outcome) (keys worsts : List ℕ) : Type 0 where
-  pub answer : r ≡ first_fit o
-  pub lines : (count : ℕ) → r.answer ≡ Ok count → (lasts : List ℕ) × Lines o r.placing o.tasks keys lasts worsts
+pub record AllTaken (o : Order) (r : Result Placing Refusal) (keys worsts : List ℕ) : Type 0 where
+  pub answer : r ≡ told (first_fit o)
+  pub lines : (s : Placing) → r ≡ Ok s → (lasts : List ℕ) × Lines o s o.tasks keys lasts worsts
 
 -- all tasks stand in line, with their worst responses
 pub record Recording (keys worsts : List ℕ) (tasks : ℕ) : Type 0 where

@@ -4,4 +4,4 @@
 mod records;
 mod taking;
 
-pub use records::{Fitted, first_fit};
+pub use records::first_fit;

@@ -1,6 +1,6 @@
 -- What it says that a partition takes a task, and that none does.
-use Rattle.std.specs.Prelude.{Option, Some, None, Ok, Err}
-use mathlib.Core.Path.{◌≡◌, refl, sym, ap, ◌∙◌, subst}
+use Rattle.std.specs.Prelude.{Ok, Err}
+use mathlib.Core.Path.{◌≡◌, refl, sym, ap, ◌∙◌}
 use mathlib.Core.Bool.{Bool, true, false}
 use mathlib.Core.List.{List}
 use Prim.Native.Nat.{ℕ, ◌<◌}
@@ -8,7 +8,6 @@ use lib.ListN.{set}
 use Rattle.laws.proofs.Every.{clash, every_at, every_all, every_stop}
 use Rattle.search.proofs.First.{Firstly, first_says}
 use Rattle.demand.specs.Test.{verdict, does_pass}
-use Rattle.turns.specs.Turns.{FoundBelow}
 use Rattle.fitting.specs.Kinds.{Order, Verdict, NoWindow, NoStart, TooLate, Placing}
 use Rattle.fitting.specs.Steps.{living_in, member_passes, members_pass, accepts, lowest_accepting}
 use Rattle.fitting.specs.Claims.{AcceptsMeans}
@@ -57,8 +56,3 @@ module _ (o : Order) (s : Placing) (i : ℕ) where
   pub lowest_says : Firstly (accepts o s.homes i) s.opened (lowest_accepting o s i)
   unfolding lowest_accepting
   lowest_says = first_says (accepts o s.homes i) s.opened
-
-  -- what is found is an opened one
-  pub lowest_below : (f : Option ℕ) → f ≡ lowest_accepting o s i → FoundBelow f s.opened
-  lowest_below (Some k) e = (subst (Firstly (accepts o s.homes i) s.opened) (sym e) lowest_says).below
-  lowest_below None e = tt

@@ -1,5 +1,4 @@
 -- What first fit's placing, refusal and build say: the claims of specs/Claims.antt about a whole order.
-use Rattle.std.specs.Prelude.{Ok, Err}
 use mathlib.Core.Path.{◌≡◌, sym, ap, ◌∙◌, subst}
 use mathlib.Core.Bool.{false}
 use mathlib.Core.List.{List}
@@ -13,8 +12,8 @@ use Rattle.demand.specs.Priority.{rank}
 use Rattle.demand.specs.Test.{verdict}
 use Rattle.demand.proofs.Membership.{rank_same, verdict_same}
 use Rattle.turns.specs.Turns.{home_at, is_unplaced}
-use Rattle.fitting.specs.Kinds.{Order, Partition, OfCall, FirstFit, Placing, Outcome}
-use Rattle.fitting.specs.Steps.{nothing_placed, going_on, refusing, living_in, turns_taken, first_fit}
+use Rattle.fitting.specs.Kinds.{Order, Partition, Placing}
+use Rattle.fitting.specs.Steps.{nothing_placed, RefusedAt, going_on, refusing, living_in, turns_taken, first_fit}
 use Rattle.fitting.specs.Claims.{volume_at, Placed, FirstFitPlaces, RefusedIn, FirstFitRefuses, FirstFitEnds}
 use Rattle.fitting.specs.Standing.{Stands}
 use Rattle.fitting.proofs.Put.{living_same, none_waits}
@@ -83,14 +82,14 @@ module _ (o : Order) (limits : WithinLimits o) where
   end = ends o limits o.tasks 0 nothing_placed (omega arith) start (steps_none o nothing_placed)
 
   fits_not_refused : {A : Type 0} (s t : Placing) (i : ℕ) → going_on s ≡ refusing t i → A
-  fits_not_refused s t i e = let f : Ok 0 ≡ Err (OfCall (FirstFit i)) = ap (λ (outcome : Outcome). outcome.answer) e in let z : ◌≡◌ {A = ℕ} 0 1 = cc f in absurd (omega arith)
+  fits_not_refused s t i e = absurd (cc e)
 
   pub places : (s : Placing) → first_fit o ≡ going_on s → Stands o o.tasks s
   unfolding first_fit
   places s e = go end
     where
       go : End → Stands o o.tasks s
-      go (all_placed t is p) = subst (Stands o o.tasks) (ap (λ (outcome : Outcome). outcome.placing) (sym p ∙ e)) is
+      go (all_placed t is p) = let same : t ≡ s = cc (sym p ∙ e) in subst (Stands o o.tasks) same is
       go (one_refused t i is p) = fits_not_refused s t i (sym e ∙ p)
 
   pub refuses : (s : Placing) (i : ℕ) → first_fit o ≡ refusing s i → RefusedIn o s i
@@ -101,8 +100,8 @@ module _ (o : Order) (limits : WithinLimits o) where
       go (all_placed t is p) = fits_not_refused t s i (sym p ∙ e)
       go (one_refused t j is p) =
           let same : refusing t j ≡ refusing s i = sym p ∙ e in
-          let task : j ≡ i = cc (ap (λ (outcome : Outcome). outcome.answer) same) in
-          subst (λ (x : Placing). RefusedIn o x i) (ap (λ (outcome : Outcome). outcome.placing) same) (subst (λ (x : ℕ). RefusedIn o t x) task is)
+          let at : ◌≡◌ {A = RefusedAt} (record { placing = t; task = j }) (record { placing = s; task = i }) = cc same in
+          subst (λ (x : RefusedAt). RefusedIn o x.placing x.task) at is
 
   pub one_of_two : ((s : Placing) × (first_fit o ≡ going_on s)) ⊎ ((s : Placing) × ((i : ℕ) × (first_fit o ≡ refusing s i)))
   unfolding first_fit

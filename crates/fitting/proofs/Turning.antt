@@ -13,21 +13,18 @@ use Rattle.model.specs.Rules.{WithinLimits}
 use Rattle.turns.specs.Turns.{width_of, next_task}
 use Rattle.turns.specs.Claims.{IsNext}
 use Rattle.turns.proofs.Turns.{next_is, is_next, none_next}
-use Rattle.fitting.specs.Kinds.{Order, Answer, Refusal, OfCall, FirstFit, Placing, Outcome}
-use Rattle.fitting.specs.Steps.{nothing_placed, put, open_next, going_on, refusing, accepts, lowest_accepting, opening, settled, after_turn, turn_taken, unless_refused, turns_taken, first_fit}
+use Rattle.fitting.specs.Kinds.{Order, Refusal, Placing}
+use Rattle.fitting.specs.Steps.{nothing_placed, put, open_next, Outcome, going_on, refusing, told, accepts, lowest_accepting, opening, settled, after_turn, turn_taken, unless_refused, turns_taken, first_fit}
 use Rattle.fitting.specs.Claims.{RefusedIn}
 use Rattle.fitting.specs.Standing.{Stands}
 use Rattle.fitting.proofs.Put.{one_waits}
 use Rattle.fitting.proofs.Accepts.{lowest_says}
 use Rattle.fitting.proofs.Standing.{stands_accepted, stands_opened}
 
-pub on_done : (outcome : Outcome) (next : Placing → Outcome) (count : ℕ) → outcome.answer ≡ Ok count → unless_refused outcome next ≡ next outcome.placing
-unfolding unless_refused
-on_done outcome next count e = rw (e, unless_refused)
-
-pub on_refused : (outcome : Outcome) (next : Placing → Outcome) (cause : Refusal) → outcome.answer ≡ Err cause → unless_refused outcome next ≡ outcome
-unfolding unless_refused
-on_refused outcome next cause e = ap (λ (a : Answer). elim a [ Ok count ↦ next outcome.placing | Err other ↦ outcome ]) e
+-- an answer that goes on is of an outcome that does
+pub told_on : (outcome : Outcome) (t : Placing) → told outcome ≡ Ok t → outcome ≡ going_on t
+told_on (Ok s) t e = let same : s ≡ t = cc e in ap going_on same
+told_on (Err at) t e = absurd (cc e)
 
 module _ (o : Order) where
   pub steps_none : (s : Placing) → turns_taken o 0 s ≡ going_on s
@@ -42,14 +39,14 @@ module _ (o : Order) where
   unfolding turns_taken unless_refused
   steps_stop k i s t e = ap (λ (outcome : Outcome). unless_refused outcome (turns_taken o k)) e
 
-  -- a refusal ends the steps; else the rest follows
-  pub steps_end : (k : ℕ) (s : Placing) (cause : Refusal) → (turn_taken o s).answer ≡ Err cause → turns_taken o (suc k) s ≡ turn_taken o s
-  unfolding turns_taken
-  steps_end k s cause e = on_refused (turn_taken o s) (turns_taken o k) cause e
-
-  pub steps_next : (k : ℕ) (s : Placing) (count : ℕ) → (turn_taken o s).answer ≡ Ok count → turns_taken o (suc k) s ≡ turns_taken o k (turn_taken o s).placing
-  unfolding turns_taken
-  steps_next k s count e = on_done (turn_taken o s) (turns_taken o k) count e
+  -- a refusal ends the steps
+  pub steps_end : (k : ℕ) (s : Placing) (cause : Refusal) → told (turn_taken o s) ≡ Err cause → told (turns_taken o (suc k) s) ≡ Err cause
+  unfolding turns_taken unless_refused
+  steps_end k s cause = go (turn_taken o s)
+    where
+      go : (outcome : Outcome) → told outcome ≡ Err cause → told (unless_refused outcome (turns_taken o k)) ≡ Err cause
+      go (Ok t) e = absurd (cc e)
+      go (Err at) e = e
 
   pub step-idle : (s : Placing) → next_task o s.homes o.tasks ≡ None → turn_taken o s ≡ going_on s
   unfolding turn_taken
@@ -78,45 +75,32 @@ module _ (o : Order) where
     pub step_refuse : lowest_accepting o s i ≡ None → o.processors - s.used < width_of o i → turn_taken o s ≡ refusing s i
     step_refuse e l = step_next ∙ (ap (settled o s i) e ∙ opening_none s i l)
 
-  refused_never : (outcome : Outcome) (t : Placing) (cause : Refusal) → outcome.answer ≡ Err cause → outcome ≡ going_on t → ⊥
-  refused_never outcome t cause p e =
-      let f : Err cause ≡ Ok 0 = sym p ∙ ap (λ (x : Outcome). x.answer) e in
-      let z : ◌≡◌ {A = ℕ} 0 1 = cc f in
-      omega arith
-
   -- one step more at the end
   pub steps_more : (k : ℕ) (r s t : Placing) → turns_taken o k r ≡ going_on s → turn_taken o s ≡ going_on t → turns_taken o (suc k) r ≡ going_on t
-  unfolding turns_taken
-  steps_more zero r s t e f = steps_on 0 r t (ap (turn_taken o) (ap (λ (outcome : Outcome). outcome.placing) e) ∙ f)
-  steps_more (suc k) r s t e f =
-      go (λ (x : Placing) (p : turns_taken o k x ≡ going_on s). steps_more k x s t p f) (turn_taken o r).answer refl e
+  unfolding turns_taken unless_refused
+  steps_more zero r s t e f = let same : r ≡ s = cc e in steps_on 0 r t (ap (turn_taken o) same ∙ f)
+  steps_more (suc k) r s t e f = go (λ (x : Placing) (p : turns_taken o k x ≡ going_on s). steps_more k x s t p f) (turn_taken o r) e
     where
-      go : ((x : Placing) → turns_taken o k x ≡ going_on s → turns_taken o (suc k) x ≡ going_on t) → (a : Answer) → (turn_taken o r).answer ≡ a →
-          unless_refused (turn_taken o r) (turns_taken o k) ≡ going_on s → unless_refused (turn_taken o r) (turns_taken o (suc k)) ≡ going_on t
-      go ih (Ok count) p q =
-          on_done (turn_taken o r) (turns_taken o (suc k)) count p
-          ∙ ih (turn_taken o r).placing (sym (on_done (turn_taken o r) (turns_taken o k) count p) ∙ q)
-      go ih (Err cause) p q =
-          absurd (refused_never (turn_taken o r) s cause p (sym (on_refused (turn_taken o r) (turns_taken o k) cause p) ∙ q))
+      go : ((x : Placing) → turns_taken o k x ≡ going_on s → turns_taken o (suc k) x ≡ going_on t) → (outcome : Outcome) →
+          unless_refused outcome (turns_taken o k) ≡ going_on s → unless_refused outcome (turns_taken o (suc k)) ≡ going_on t
+      go ih (Ok u) q = ih u q
+      go ih (Err at) q = absurd (cc q)
 
   -- a refusal after so many turns is that of all turns
   turns_then : (k rest i : ℕ) (r s : Placing) → turns_taken o k r ≡ going_on s → turn_taken o s ≡ refusing s i → turns_taken o (k + suc rest) r ≡ refusing s i
-  unfolding turns_taken
+  unfolding turns_taken unless_refused
   turns_then zero rest i r s e f =
-      let same : r ≡ s = ap (λ (outcome : Outcome). outcome.placing) e in
+      let same : r ≡ s = cc e in
       let first : 0 + suc rest ≡ suc rest = omega arith in
       ap (λ (x : ℕ). turns_taken o x r) first ∙ steps_stop rest i r s (ap (turn_taken o) same ∙ f)
   turns_then (suc k) rest i r s e f =
       let more : suc k + suc rest ≡ suc (k + suc rest) = omega arith in
-      ap (λ (x : ℕ). turns_taken o x r) more ∙ go (λ (x : Placing) (p : turns_taken o k x ≡ going_on s). turns_then k rest i x s p f) (turn_taken o r).answer refl e
+      ap (λ (x : ℕ). turns_taken o x r) more ∙ go (λ (x : Placing) (p : turns_taken o k x ≡ going_on s). turns_then k rest i x s p f) (turn_taken o r) e
     where
-      go : ((x : Placing) → turns_taken o k x ≡ going_on s → turns_taken o (k + suc rest) x ≡ refusing s i) → (a : Answer) → (turn_taken o r).answer ≡ a →
-          unless_refused (turn_taken o r) (turns_taken o k) ≡ going_on s → unless_refused (turn_taken o r) (turns_taken o (k + suc rest)) ≡ refusing s i
-      go ih (Ok count) p q =
-          on_done (turn_taken o r) (turns_taken o (k + suc rest)) count p
-          ∙ ih (turn_taken o r).placing (sym (on_done (turn_taken o r) (turns_taken o k) count p) ∙ q)
-      go ih (Err cause) p q =
-          absurd (refused_never (turn_taken o r) s cause p (sym (on_refused (turn_taken o r) (turns_taken o k) cause p) ∙ q))
+      go : ((x : Placing) → turns_taken o k x ≡ going_on s → turns_taken o (k + suc rest) x ≡ refusing s i) → (outcome : Outcome) →
+          unless_refused outcome (turns_taken o k) ≡ going_on s → unless_refused outcome (turns_taken o (k + suc rest)) ≡ refusing s i
+      go ih (Ok u) q = ih u q
+      go ih (Err at) q = absurd (cc q)
 
 module _ (o : Order) (limits : WithinLimits o) where
   pub widths : (j : ℕ) → j < o.tasks → 1 ≤ width_of o j
@@ -160,16 +144,6 @@ module _ (o : Order) (limits : WithinLimits o) where
       by_turn None turn =
           let one = one_waits s.homes o.tasks (omega (arith, was.numbered.count)) in
           clash (sym (none_next o s.homes o.tasks turn one.0 one.1) ∙ one.2)
-
-  pub stands_next : (placed : ℕ) (s : Placing) (count : ℕ) → Stands o placed s → placed < o.tasks → (turn_taken o s).answer ≡ Ok count → Stands o (placed + 1) (turn_taken o s).placing
-  stands_next placed s count was early done = go (step_cases placed s was early)
-    where
-      go : StepCases placed s → Stands o (placed + 1) (turn_taken o s).placing
-      go (went_on t is e) = subst (Stands o (placed + 1)) (ap (λ (outcome : Outcome). outcome.placing) (sym e)) is
-      go (refused i next none short e) =
-          let f : Err (OfCall (FirstFit i)) ≡ Ok count = ap (λ (outcome : Outcome). outcome.answer) (sym e) ∙ done in
-          let z : ◌≡◌ {A = ℕ} 0 1 = cc f in
-          absurd (omega arith)
 
   -- what so many steps end in
   pub data Ends (left : ℕ) (s : Placing) : Type 0 where

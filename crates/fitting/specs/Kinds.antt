@@ -1,5 +1,4 @@
 -- The declared kinds under one name each.
-use Rattle.std.specs.Prelude.{Ok, Err, Some, None, Option, ℕ}
 pub use Rattle.model.specs.declared.order.Order.{Order}
 pub use Rattle.model.specs.declared.build.Partition.{Partition}
 pub use Rattle.model.specs.Kinds.{Answer}
@@ -9,4 +8,3 @@ pub use Rattle.model.specs.declared.answer.CallCause.TheVariants.{FirstFit}
 pub use Rattle.demand.specs.Verdict.{Verdict}
 pub use Rattle.demand.specs.declared.Failing.TheVariants.{NoWindow, NoStart, TooLate}
 pub use Rattle.fitting.specs.declared.Placing.{Placing}
-pub use Rattle.fitting.specs.declared.Outcome.{Outcome}

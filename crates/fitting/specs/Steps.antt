@@ -1,5 +1,5 @@
 -- "First fit by decreasing volume", turn by turn, for the tasks of an order on its processors.
-use Rattle.std.specs.Prelude.{Bool, true, List, ℕ, zero, suc, ◌+◌, ◌-◌, leb, eqb, set, replicate, Ok, Err, Option, Some, None}
+use Rattle.std.specs.Prelude.{Bool, true, List, ℕ, zero, suc, ◌+◌, ◌-◌, leb, eqb, set, replicate, Result, Ok, Err, Option, Some, None}
 use Rattle.laws.specs.Choice.{pick}
 use Rattle.laws.specs.Every.{every}
 use Rattle.model.specs.Limits.{most_tasks, most_partitions, zero_partition}
@@ -7,7 +7,7 @@ use Rattle.search.specs.Smallest.{first_of}
 use Rattle.demand.specs.Priority.{Members}
 use Rattle.demand.specs.Test.{verdict, does_pass}
 use Rattle.turns.specs.Turns.{width_of, unplaced, home_at, next_task}
-use Rattle.fitting.specs.Kinds.{Order, OfCall, FirstFit, Placing, Outcome}
+use Rattle.fitting.specs.Kinds.{Order, Refusal, OfCall, FirstFit, Placing}
 
 -- no task is placed, no partition is open
 abbrev pub nothing_placed : Placing
@@ -27,13 +27,27 @@ open_next s m =
       used = s.used + m;
     }
 
+-- the task that is refused, and the placing in which it was
+pub record RefusedAt : Type 0 where
+  pub placing : Placing
+  pub task : ℕ
+
+-- what comes of a turn, or of many
+abbrev pub Outcome : Type 0
+Outcome = Result Placing RefusedAt
+
 -- a placing that goes on
 abbrev pub going_on : Placing → Outcome
-going_on s = record { answer = Ok 0; placing = s }
+going_on s = Ok s
 
 -- "refuse, naming that task", in the placing where it was refused
 abbrev pub refusing : Placing → ℕ → Outcome
-refusing s i = record { answer = Err (OfCall (FirstFit i)); placing = s }
+refusing s i = Err (record { placing = s; task = i })
+
+-- the answer: the placing, or 11 for the task
+abbrev pub told : Outcome → Result Placing Refusal
+told (Ok s) = Ok s
+told (Err at) = Err (OfCall (FirstFit at.task))
 
 -- the tasks placed in partition k
 unfoldable pub living_in : List ℕ → (k : ℕ) → Members
@@ -75,7 +89,7 @@ turn_taken o s = after_turn o s (next_task o s.homes o.tasks)
 
 -- what follows, unless a task was refused
 unfoldable pub unless_refused : Outcome → (Placing → Outcome) → Outcome
-unless_refused outcome next = elim outcome.answer [ Ok count ↦ next outcome.placing | Err cause ↦ outcome ]
+unless_refused outcome next = elim outcome [ Ok s ↦ next s | Err at ↦ Err at ]
 
 -- so many turns
 unfoldable pub turns_taken : Order → ℕ → Placing → Outcome

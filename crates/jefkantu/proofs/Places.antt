@@ -1,5 +1,5 @@
 -- Every place and count that the functions of orders, builds, runs and texts answer fits its part of the word.
-use Rattle.std.specs.Prelude.{Ok, Err}
+use Rattle.std.specs.Prelude.{Result, Ok, Err}
 use mathlib.Core.Path.{◌≡◌, refl, ap}
 use mathlib.Core.List.{List, [], ◌∷◌}
 use Prim.Native.Nat.{ℕ, ◌%◌, ◌≤◌, ◌<◌}
@@ -12,6 +12,7 @@ use Rattle.laws.specs.Joined.{joined}
 use Rattle.laws.proofs.Every.{and_both}
 use Rattle.model.specs.declared.order.Order.{Order}
 use Rattle.model.specs.declared.build.Build.{Build}
+use Rattle.model.specs.declared.answer.Refusal.{Refusal}
 use Rattle.model.specs.Kinds.{Answer}
 use Rattle.model.specs.Layouts.{order_length}
 use Rattle.model.specs.Rules.{range_rules, room_rules, WithinLimits}
@@ -27,7 +28,7 @@ use Rattle.text.specs.Read.{line_rules, text_rules, read_text_rules, read_text_a
 use Rattle.text_out.specs.Write.{text_of, write_text_rules, write_text_answer}
 use Rattle.build.specs.Build.{build_at}
 use Rattle.build.proofs.Fits.{header_fits}
-use Rattle.fit.specs.Recorded.{fitted_of}
+use Rattle.fit.specs.Recorded.{fitted_of, build_in}
 use Rattle.fit.proofs.Built.{fitted_is_refused}
 use Rattle.fit.proofs.Fields.{fitted_fits_fields}
 use Rattle.plan.specs.Plan.{fit_rules, size_of, fitted_rules, plan_rules, plan_answer}
@@ -79,14 +80,14 @@ write_fits processors c room =
     alone_fits size (write_rules processors c room) (omega arith, (omega arith, (omega arith, rest))) (omega arith)
 
 -- the task that first fit names is one of the order's
-fit_places : (o : Order) → WithinLimits o → PlacesFit (fit_rules o (fitted_of o).answer)
+fit_places : (o : Order) → WithinLimits o → PlacesFit (fit_rules o (fitted_of o))
 unfolding PlacesFit
-fit_places o limits = go (fitted_of o).answer refl
+fit_places o limits = go (fitted_of o) refl
   where
-    go : (a : Answer) → (fitted_of o).answer ≡ a → PlacesFit (fit_rules o a)
-    go (Ok count) e = tt
+    go : (a : Result Build Refusal) → fitted_of o ≡ a → PlacesFit (fit_rules o a)
+    go (Ok build) e = tt
     go (Err cause) e =
-        let r = (fitted_is_refused o (fitted_of o).build cause limits (ap (λ (a : Answer). record { answer = a; build = (fitted_of o).build }) e)).1.1 in
+        let r = (fitted_is_refused o cause limits e).1 in
         (rw r.1 (omega (arith, r.2.next.below, limits.tasks)), tt)
 
 pub plan_fits : (order : List ℕ) (room : ℕ) → FitsWord (plan_answer order room)
@@ -94,12 +95,12 @@ unfolding plan_answer plan_rules fitted_rules
 plan_fits order room =
     let o = order_at order in
     let found = fitted_of o in
-    let size = size_of found.build in
+    let size = size_of (build_in found) in
     answer_fits size (order_rules order) _ (order_places order)
     (λ all.
     let limits = within_limits order all in
     let fields = fitted_fits_fields o limits in
-    alone_fits size _ (places_append (fit_rules o found.answer) (room_rules size room) (fit_places o limits) (room_places size room)) (omega (arith, fields.partitions, fields.tasks)))
+    alone_fits size _ (places_append (fit_rules o found) (room_rules size room) (fit_places o limits) (room_places size room)) (omega (arith, fields.partitions, fields.tasks)))
 
 layout_places : (o : Order) (s : List ℕ) → PlacesFit (build_layout_rules o s)
 unfolding PlacesFit build_layout_rules

@@ -1,7 +1,7 @@
 -- The opened partitions tried in turn: none so far takes the task, and nothing has changed.
-use Rattle.std.specs.Prelude.{Some, None}
+use Rattle.std.specs.Prelude.{Some, None, Result, Ok, Err}
 use mathlib.Core.Path.{◌≡◌, refl, sym, ap, ◌∙◌, subst}
-use mathlib.Core.Bool.{true, false}
+use mathlib.Core.Bool.{false}
 use mathlib.Core.List.{List}
 use Prim.Native.Nat.{ℕ, ◌+◌, ◌≤◌, ◌<◌}
 use native.Mathlib.Decide.{ℕ_discrete}
@@ -15,7 +15,6 @@ use Rattle.roster.specs.Lined.{PartFrom}
 use Rattle.roster.proofs.Lining.{part_next}
 use Rattle.turns.specs.Turns.{home_at}
 use Rattle.fitting.specs.Steps.{accepts}
-use Rattle.placing.specs.declared.Tried.{Tried}
 use Rattle.placing.specs.Known.{Known, Trying, TryingIn, TriedIn, Lowest}
 
 module _ (table keys : List ℕ) (placed : ℕ) (lasts₀ worsts₀ : List ℕ) (task : ℕ) where
@@ -47,7 +46,7 @@ module _ (table keys : List ℕ) (placed : ℕ) (lasts₀ worsts₀ : List ℕ) 
         subst (λ (ls : List ℕ). TryingIn table keys placed first key ls worsts) (sym was.lasts_kept)
         (subst (λ (ws : List ℕ). TryingIn table keys placed first key lasts₀ ws) (sym was.worsts_kept) (trying_in first partition key so was.members few e))
 
-    module _ (r : Tried) (lasts' worsts' : List ℕ)
+    module _ (r : Result (Unit {0}) ℕ) (lasts' worsts' : List ℕ)
         (tried : (so : TryingIn table keys placed first key lasts worsts) → TriedIn table keys placed first key lasts worsts so r lasts' worsts') where
       first_tried : (so : TryingIn table keys placed first key lasts₀ worsts₀) → TriedIn table keys placed first key lasts₀ worsts₀ so r lasts' worsts'
       first_tried =
@@ -58,24 +57,24 @@ module _ (table keys : List ℕ) (placed : ℕ) (lasts₀ worsts₀ : List ℕ) 
       is so = first_tried (trying_in first partition key so was.members few e)
 
       -- this one takes it
-      pub found_here : (opened : ℕ) → partition < opened → r.passes ≡ true → (so : Trying table keys placed lasts₀ worsts₀ task)
+      pub found_here : (opened : ℕ) → partition < opened → r ≡ Ok tt → (so : Trying table keys placed lasts₀ worsts₀ task)
           → Lowest table keys placed lasts₀ worsts₀ task so opened (Some partition) lasts' worsts'
       found_here opened l t so =
           record {
-            answer = sym (first_found (accepts so.order so.homes task) opened partition (record { below = l; holds = sym (is so).answer ∙ t; earlier = was.none so }));
+            answer = sym (first_found (accepts so.order so.homes task) opened partition (record { below = l; holds = (is so).takes t; earlier = was.none so }));
             taken = λ k f. subst (λ (x : ℕ). Known so.order (set so.homes task x) lasts' worsts') (at_one partition k f) ((is so).taken t);
-            refused = λ f. (let z : ◌≡◌ {A = ℕ} 0 1 = cc f in absurd (omega arith));
+            refused = λ f. absurd (cc f);
           }
 
       -- it does not
-      pub not_here : Trying table keys placed lasts₀ worsts₀ task → r.passes ≡ false → Sought lasts' worsts' (first + r.size) (partition + 1)
-      not_here some f =
+      pub not_here : Trying table keys placed lasts₀ worsts₀ task → {size : ℕ} → r ≡ Err size → Sought lasts' worsts' (first + size) (partition + 1)
+      not_here some {size} f =
           record {
-            lasts_kept = ((is some).refused f).0;
-            worsts_kept = ((is some).refused f).1;
-            members = subst (λ (s : ℕ). PartFrom keys placed (first + s) (partition + 1)) (sym (is some).size) (part_next some.order some.limits _ (home_at some.homes) keys placed some.line first partition was.members);
+            lasts_kept = ((is some).refused size f).0;
+            worsts_kept = ((is some).refused size f).1;
+            members = subst (λ (s : ℕ). PartFrom keys placed (first + s) (partition + 1)) (sym ((is some).members size f)) (part_next some.order some.limits _ (home_at some.homes) keys placed some.line first partition was.members);
             none = λ so k l. elim (ℕ_discrete k partition) [
-              | yes same ↦ ap (accepts so.order so.homes task) same ∙ sym (is so).answer ∙ f
+              | yes same ↦ ap (accepts so.order so.homes task) same ∙ (is so).refuses size f
               | no other ↦ was.none so k (omega (arith, other))
             ];
           }
@@ -85,6 +84,6 @@ module _ (table keys : List ℕ) (placed : ℕ) (lasts₀ worsts₀ : List ℕ) 
   found_nowhere lasts worsts first partition opened was le so =
       record {
         answer = sym (first_missing (accepts so.order so.homes task) opened (λ k l. was.none so k (omega arith)));
-        taken = λ k f. (let z : ◌≡◌ {A = ℕ} 0 1 = cc f in absurd (omega arith));
+        taken = λ k f. absurd (cc f);
         refused = λ f. (was.lasts_kept, was.worsts_kept);
       }

@@ -1,6 +1,7 @@
 -- The line and the rows that a trial makes, and what its answer says.
-use mathlib.Core.Path.{◌≡◌, ap, ◌∙◌, subst}
-use mathlib.Core.Bool.{Bool}
+use Rattle.std.specs.Prelude.{Ok, Err}
+use mathlib.Core.Path.{◌≡◌, sym, ap, ◌∙◌, subst}
+use mathlib.Core.Bool.{Bool, true, false}
 use mathlib.Core.List.{List}
 use Prim.Native.Nat.{ℕ, ◌+◌, ◌-◌, ◌<◌}
 use native.Mathlib.Omega.{arith}
@@ -16,6 +17,7 @@ use Rattle.roster.specs.Rows.{RowsInLine}
 use Rattle.roster.specs.Lined.{part_size}
 use Rattle.roster.proofs.Lining.{home_of_key}
 use Rattle.roster.proofs.Runs.{run_most}
+use Rattle.fitting.specs.Steps.{accepts}
 use Rattle.placing.specs.Known.{TryingIn, TriedIn}
 use Rattle.placing.proofs.Beside.{newcomer_in, fit, before, answer_is, known_now}
 
@@ -69,14 +71,33 @@ module _ (table keys lasts worsts : List ℕ) (placed first key : ℕ) (so : Try
           before o t.limits t.homes t.places i k t.known_task t.waits so.few keys placed first t.line so.members own₁ own₂ rows table copied' put' size_small t.rows filled' lasts worsts t.known,
         )
 
-    pub told : (passes : Bool) (lasts' worsts' : List ℕ) → TriedAs rows own₂ (size + 1) lasts worsts passes lasts' worsts'
-        → TriedIn table keys placed first key lasts worsts so (record { passes = passes; size = size }) lasts' worsts'
-    told passes lasts' worsts' is =
+    answer_of : (passes : Bool) (lasts' worsts' : List ℕ) → TriedAs rows own₂ (size + 1) lasts worsts passes lasts' worsts' → passes ≡ accepts o so.trying.homes i k
+    answer_of passes lasts' worsts' is =
+        let t = so.trying in
+        let is' = subst (λ (s : ℕ). TriedAs rows own₂ (s + 1) lasts worsts passes lasts' worsts') counted is in
+        answer_is o t.limits t.homes t.places i k t.known_task t.waits so.few keys placed first t.line so.members own₁ own₂ rows table copied' put' size_small t.rows filled' lasts worsts t.known passes is'.all_pass
+
+    -- the trial passes, or it does not
+    pub told_takes : (passes : Bool) (lasts' worsts' : List ℕ) → TriedAs rows own₂ (size + 1) lasts worsts passes lasts' worsts' → passes ≡ true
+        → TriedIn table keys placed first key lasts worsts so (Ok tt) lasts' worsts'
+    told_takes passes lasts' worsts' is pass =
         let t = so.trying in
         let is' = subst (λ (s : ℕ). TriedAs rows own₂ (s + 1) lasts worsts passes lasts' worsts') counted is in
         record {
-          size = counted;
-          answer = answer_is o t.limits t.homes t.places i k t.known_task t.waits so.few keys placed first t.line so.members own₁ own₂ rows table copied' put' size_small t.rows filled' lasts worsts t.known passes is'.all_pass;
-          taken = λ e. known_now o t.limits t.homes t.places i k t.known_task t.waits so.few keys placed first t.line so.members own₁ own₂ rows table copied' put' size_small t.rows filled' lasts worsts t.known lasts' worsts' (is'.taken e);
-          refused = is.refused;
+          takes = λ e. sym (answer_of passes lasts' worsts' is) ∙ pass;
+          taken = λ e. known_now o t.limits t.homes t.places i k t.known_task t.waits so.few keys placed first t.line so.members own₁ own₂ rows table copied' put' size_small t.rows filled' lasts worsts t.known lasts' worsts' (is'.taken pass);
+          refuses = λ n e. absurd (cc e);
+          refused = λ n e. absurd (cc e);
+          members = λ n e. absurd (cc e);
+        }
+
+    pub told_refuses : (passes : Bool) (lasts' worsts' : List ℕ) → TriedAs rows own₂ (size + 1) lasts worsts passes lasts' worsts' → passes ≡ false
+        → TriedIn table keys placed first key lasts worsts so (Err size) lasts' worsts'
+    told_refuses passes lasts' worsts' is fail =
+        record {
+          takes = λ e. absurd (cc e);
+          taken = λ e. absurd (cc e);
+          refuses = λ n e. sym (answer_of passes lasts' worsts' is) ∙ fail;
+          refused = λ n e. is.refused fail;
+          members = λ n e. (let same : size ≡ n = cc e in sym same ∙ counted);
         }

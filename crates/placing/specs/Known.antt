@@ -1,5 +1,5 @@
 -- What is known of the placed tasks while first fit goes on. Inner definitions; those of the document stand in fitting.
-use Rattle.std.specs.Prelude.{ℕ, ◌+◌, ◌≤◌, ◌<◌, ◌≡◌, true, false, not, List, length, get_or, set, Some, None, Option, Ok}
+use Rattle.std.specs.Prelude.{ℕ, ◌+◌, ◌≤◌, ◌<◌, ◌≡◌, true, false, not, List, length, get_or, set, Some, None, Option, Ok, Err, Result}
 use Rattle.model.specs.declared.order.Order.{Order}
 use Rattle.model.specs.Limits.{most_tasks, task_of}
 use Rattle.model.specs.Rules.{WithinLimits}
@@ -13,7 +13,6 @@ use Rattle.roster.specs.Rows.{RowsByNumber}
 use Rattle.roster.specs.Lined.{Lined, PartFrom, part_size}
 use Rattle.turns.specs.Turns.{home_at, is_unplaced}
 use Rattle.fitting.specs.Steps.{living_in, accepts}
-use Rattle.placing.specs.declared.Tried.{Tried}
 
 -- no window of member i closes before a tick
 abbrev pub OpenUntil : Order → Members → (i last : ℕ) → Type 0
@@ -55,11 +54,12 @@ pub record TryingIn (table keys : List ℕ) (placed first key : ℕ) (lasts wors
   pub members : PartFrom keys placed first partition
 
 -- what comes of it
-pub record TriedIn (table keys : List ℕ) (placed first key : ℕ) (lasts worsts : List ℕ) (so : TryingIn table keys placed first key lasts worsts) (r : Tried) (lasts' worsts' : List ℕ) : Type 0 where
-  pub size : r.size ≡ part_size keys placed first so.partition
-  pub answer : r.passes ≡ accepts so.trying.order so.trying.homes so.task so.partition
-  pub taken : r.passes ≡ true → Known so.trying.order (set so.trying.homes so.task so.partition) lasts' worsts'
-  pub refused : r.passes ≡ false → (lasts' ≡ lasts) × (worsts' ≡ worsts)
+pub record TriedIn (table keys : List ℕ) (placed first key : ℕ) (lasts worsts : List ℕ) (so : TryingIn table keys placed first key lasts worsts) (r : Result (Unit {0}) ℕ) (lasts' worsts' : List ℕ) : Type 0 where
+  pub takes : r ≡ Ok tt → accepts so.trying.order so.trying.homes so.task so.partition ≡ true
+  pub taken : r ≡ Ok tt → Known so.trying.order (set so.trying.homes so.task so.partition) lasts' worsts'
+  pub refuses : (size : ℕ) → r ≡ Err size → accepts so.trying.order so.trying.homes so.task so.partition ≡ false
+  pub refused : (size : ℕ) → r ≡ Err size → (lasts' ≡ lasts) × (worsts' ≡ worsts)
+  pub members : (size : ℕ) → r ≡ Err size → size ≡ part_size keys placed first so.partition
 
 -- what comes of it where all opened partitions are tried in turn
 pub record Lowest (table keys : List ℕ) (placed : ℕ) (lasts worsts : List ℕ) (task : ℕ) (so : Trying table keys placed lasts worsts task) (opened : ℕ) (r : Option ℕ) (lasts' worsts' : List ℕ) : Type 0 where

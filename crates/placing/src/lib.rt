@@ -7,14 +7,8 @@ ghost use Rattle.placing.specs.Known.{Trying, TryingIn, TriedIn, Lowest};
 use asked::{DEADLINE, ROWS};
 use model::Order;
 
-// Whether a partition takes a task, and how many members it has without it.
-#[derive(Clone, Copy)]
-struct Tried {
-    passes: bool,
-    size: usize,
-}
-
-// The task of a key among the members of its partition, who stand in line from the first on.
+// The task of a key among the members of its partition, who stand in line from the first on: whether all pass, else how
+// many members were there.
 fn try_partition(
     table: &[u32; ROWS],
     keys: &[u32; Order::MOST_TASKS],
@@ -23,7 +17,7 @@ fn try_partition(
     key: u32,
     lasts: &mut [u32; Order::MOST_TASKS],
     worsts: &mut [u32; Order::MOST_TASKS],
-) -> Tried
+) -> Result<(), usize>
     requires { TryingIn table.now keys.now placed first key lasts.old worsts.old }
     ensures { (so : TryingIn table.now keys.now placed first key lasts.old worsts.old) → TriedIn table.now keys.now placed first key lasts.old worsts.old so result lasts.new worsts.new }
 {
@@ -32,8 +26,11 @@ fn try_partition(
     let newcomer = roster::put_in(&mut own, size, key);
     let mut rows = [0u32; ROWS];
     roster::fill_rows(table, &own, size + 1, &mut rows);
-    let passes = trial::tries(&rows, &own, size + 1, newcomer, lasts, worsts);
-    Tried { passes, size }
+    if trial::tries(&rows, &own, size + 1, newcomer, lasts, worsts) {
+        Ok(())
+    } else {
+        Err(size)
+    }
 }
 
 // The lowest-numbered of the opened partitions that takes the task.
@@ -45,20 +42,17 @@ pub fn lowest_accepting(
     opened: u32,
     lasts: &mut [u32; Order::MOST_TASKS],
     worsts: &mut [u32; Order::MOST_TASKS],
-) -> Option<u64>
+) -> Option<u32>
     requires { Trying table.now keys.now placed lasts.old worsts.old task × (opened ≤ 32) }
     ensures { (so : Trying table.now keys.now placed lasts.old worsts.old task) → Lowest table.now keys.now placed lasts.old worsts.old task so opened result lasts.new worsts.new }
 {
     let mut first: usize = 0;
-    let mut partition: u32 = 0;
-    while partition < opened {
+    for partition in 0..opened {
         let key = roster::key_of(partition, table[DEADLINE + task], task);
-        let tried = try_partition(table, keys, placed, first, key, lasts, worsts);
-        if tried.passes {
-            return Some(partition as u64);
+        match try_partition(table, keys, placed, first, key, lasts, worsts) {
+            Ok(()) => return Some(partition),
+            Err(members) => first += members,
         }
-        first += tried.size;
-        partition += 1;
     }
     None
 }

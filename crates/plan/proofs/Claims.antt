@@ -1,5 +1,5 @@
 -- The claims of specs/Claims.antt, proved.
-use Rattle.std.specs.Prelude.{Ok, Err}
+use Rattle.std.specs.Prelude.{Result, Ok, Err}
 use mathlib.Core.Path.{◌≡◌, refl, sym, ap, ◌∙◌, subst}
 use mathlib.Core.List.{List}
 use mathlib.Core.Logic.{◌⊎◌, inl, inr}
@@ -24,12 +24,11 @@ use Rattle.build.specs.Build.{build_bytes}
 use Rattle.build_facts.proofs.Back.{length_right}
 use Rattle.fitting.specs.declared.Placing.{Placing}
 use Rattle.fitting.specs.Claims.{RefusedIn}
-use Rattle.fit.specs.declared.records.Fitted.{Fitted}
 use Rattle.fit.specs.Claims.{Built}
 use Rattle.fit.proofs.Built.{fitted_done, fitted_refused, fitted_is_built, fitted_is_refused, refused_is_fitted}
 use Rattle.fitting.specs.Steps.{going_on, refusing, first_fit}
 use Rattle.fitting.proofs.Claims.{refuses, one_of_two}
-use Rattle.fit.specs.Recorded.{build_of, fitted_of}
+use Rattle.fit.specs.Recorded.{build_of, fitted_of, build_in}
 use Rattle.plan.specs.Plan.{fit_rules, size_of, fitted_rules, plan_rules, plan_answer, Plans}
 use Rattle.plan.specs.Claims.{OnePlanAnswer, PlansOnlyCountedFront, RefusesWhereFitRunsOut, SoundIsPlanned, PlanningUnique}
 use Rattle.plan.proofs.Rules.{plan_order, plan_fitted, fit_stop, fit_on, plan_tells}
@@ -38,7 +37,7 @@ use Rattle.plan.proofs.Causes.{order_refuses}
 pub planning_unique : PlanningUnique
 planning_unique order output one other after after' p q =
     let same : one ≡ other = p.answered ∙ sym q.answered in
-    (same, p.written ∙ ap (λ (a : Answer). output_after a (build_bytes (fitted_of (order_at order)).build) output) same ∙ sym q.written)
+    (same, p.written ∙ ap (λ (a : Answer). output_after a (build_bytes (build_in (fitted_of (order_at order)))) output) same ∙ sym q.written)
 
 pub one_plan_answer : OnePlanAnswer
 unfolding plan_answer OneRightAnswer
@@ -46,7 +45,7 @@ one_plan_answer order room answer = one_right_answer _ (plan_rules order room) (
 
 -- an accepted plan: every rule passes, and the count is the build's length
 module _ (order output : List ℕ) (answer : Answer) (after : List ℕ) (count : ℕ) (p : Plans order output answer after) (e : answer ≡ Ok count) where
-  abbrev found : Fitted
+  abbrev found : Result Build Refusal
   found = fitted_of (order_at order)
 
   rules : AllPass (plan_rules order (length output))
@@ -61,28 +60,28 @@ module _ (order output : List ℕ) (answer : Answer) (after : List ℕ) (count :
   unfolding plan_rules
   fitted_passes = pass_rest (order_rules order) (fitted_rules (order_at order) found (length output)) rules
 
-  pub fit_done : (done : ℕ) × (found.answer ≡ Ok done)
-  fit_done = go found.answer refl
+  pub fit_done : (build : Build) × (found ≡ Ok build)
+  fit_done = go found refl
     where
-      go : (a : Answer) → found.answer ≡ a → (done : ℕ) × (found.answer ≡ Ok done)
-      go (Ok done) f = (done, f)
+      go : (a : Result Build Refusal) → found ≡ a → (build : Build) × (found ≡ Ok build)
+      go (Ok build) f = (build, f)
       go (Err cause) f = never (sym (fit_stop 0 (order_at order) found (length output) f) ∙ pass_done 0 (fitted_rules (order_at order) found (length output)) fitted_passes)
 
-  pub counted : count ≡ size_of found.build
+  pub counted : count ≡ size_of (build_in found)
   unfolding plan_answer
   counted = done_count _ (plan_rules order (length output)) (sym p.answered ∙ e)
 
-  pub room : size_of found.build ≤ length output
+  pub room : size_of (build_in found) ≤ length output
   unfolding fitted_rules
-  room = room_fits _ _ (pass_rest (fit_rules (order_at order) found.answer) (room_rules (size_of found.build) (length output)) fitted_passes)
+  room = room_fits _ _ (pass_rest (fit_rules (order_at order) found) (room_rules (size_of (build_in found)) (length output)) fitted_passes)
 
 pub plans_only_counted_front : PlansOnlyCountedFront
 plans_only_counted_front order output answer after p =
     rw p.written (
-    only_counted_front answer (build_bytes (fitted_of (order_at order)).build) output
+    only_counted_front answer (build_bytes (build_in (fitted_of (order_at order)))) output
     (λ count e.
     let size = counted order output answer after count p e in
-    (length_right (fitted_of (order_at order)).build ∙ sym size, subst (◌≤ length output) (sym size) (room order output answer after count p e)))
+    (length_right (build_in (fitted_of (order_at order))) ∙ sym size, subst (◌≤ length output) (sym size) (room order output answer after count p e)))
     )
 
 -- the answer of an order that was read
@@ -94,15 +93,13 @@ module _ (order output : List ℕ) (answer : Answer) (after : List ℕ) (p : Pla
   limits = within_limits order all
 
   -- where first fit refuses, so does the plan
-  pub refused_so : {cause : Refusal} → (fitted_of (order_at order)).answer ≡ Err cause → answer ≡ Err cause
+  pub refused_so : {cause : Refusal} → fitted_of (order_at order) ≡ Err cause → answer ≡ Err cause
   refused_so f = p.answered ∙ plan_fitted order (length output) all ∙ fit_stop _ (order_at order) (fitted_of (order_at order)) (length output) f
 
-  pub done_so : {done : ℕ} → (fitted_of (order_at order)).answer ≡ Ok done
-      → answer ≡ first_broken (size_of (fitted_of (order_at order)).build) (room_rules (size_of (fitted_of (order_at order)).build) (length output))
-  done_so f = p.answered ∙ plan_fitted order (length output) all ∙ fit_on _ (order_at order) (fitted_of (order_at order)) (length output) f
-
-  pub whole : (a : Answer) → (fitted_of (order_at order)).answer ≡ a → fitted_of (order_at order) ≡ record { answer = a; build = (fitted_of (order_at order)).build }
-  whole a f = ap (λ (x : Answer). record { answer = x; build = (fitted_of (order_at order)).build }) f
+  pub done_so : {build : Build} → fitted_of (order_at order) ≡ Ok build → answer ≡ first_broken (size_of build) (room_rules (size_of build) (length output))
+  done_so {build} f =
+      p.answered ∙ plan_fitted order (length output) all ∙ fit_on _ (order_at order) (fitted_of (order_at order)) (length output) f
+      ∙ ap (λ (x : Result Build Refusal). first_broken (size_of (build_in x)) (room_rules (size_of build) (length output))) f
 
 pub sound_is_planned : SoundIsPlanned
 sound_is_planned order output answer after p read = go (one_of_two o limits')
@@ -114,7 +111,7 @@ sound_is_planned order output answer after p read = go (one_of_two o limits')
     limits' = limits order output answer after p read
 
     go : ((s : Placing) × (first_fit (order_at order) ≡ going_on s)) ⊎ ((s : Placing) × ((i : ℕ) × (first_fit (order_at order) ≡ refusing s i)))
-        → ((b : Build) × (fitted_of (order_at order) ≡ record { answer = Ok 0; build = b }) × Built (order_at order) b × (size_of b ≤ length output → answer ≡ Ok (size_of b)))
+        → ((b : Build) × (fitted_of (order_at order) ≡ Ok b) × Built (order_at order) b × (size_of b ≤ length output → answer ≡ Ok (size_of b)))
         ⊎ ((s : Placing) × (i : ℕ) × (answer ≡ Err (OfCall (FirstFit i))) × RefusedIn (order_at order) s i)
     go (inl (s, f)) =
         let e = fitted_done (order_at order) s f in
@@ -122,13 +119,11 @@ sound_is_planned order output answer after p read = go (one_of_two o limits')
         inl (
           b,
           e,
-          fitted_is_built (order_at order) b 0 limits' e,
-          λ fits. done_so order output answer after p read (ap (λ (x : Fitted). x.answer) e)
-              ∙ ap (λ (x : Fitted). first_broken (size_of x.build) (room_rules (size_of x.build) (length output))) e
-              ∙ room_on (size_of b) (size_of b) (length output) fits,
+          fitted_is_built (order_at order) b limits' e,
+          λ fits. done_so order output answer after p read e ∙ room_on (size_of b) (size_of b) (length output) fits,
         )
     go (inr (s, (i, f))) =
-        inr (s, i, refused_so order output answer after p read (ap (λ (x : Fitted). x.answer) (fitted_refused (order_at order) s i f)), refuses (order_at order) limits' s i f)
+        inr (s, i, refused_so order output answer after p read (fitted_refused (order_at order) s i f), refuses (order_at order) limits' s i f)
 
 -- 11 names no other cause: neither the order's nor the output's
 call_not_order : {A : Type 0} {cause : OrderCause} {i : ℕ} → OfOrder cause ≡ OfCall (FirstFit i) → A
@@ -150,13 +145,13 @@ module _ (order output : List ℕ) (answer : Answer) (after : List ℕ) (i : ℕ
       let its = order_refuses order cause refused in
       call_not_order {i = i} (sym its.1 ∙ cc same)
 
-  fit_so : (read : (read_order order).answer ≡ Ok 0) → (a : Answer) → (fitted_of (order_at order)).answer ≡ a → (s : Placing) × RefusedIn (order_at order) s i
-  fit_so read (Ok done) f = absurd (room_not_fit _ _ _ i (sym (done_so order output answer after p read f) ∙ e))
+  fit_so : (read : (read_order order).answer ≡ Ok 0) → (a : Result Build Refusal) → fitted_of (order_at order) ≡ a → (s : Placing) × RefusedIn (order_at order) s i
+  fit_so read (Ok build) f = absurd (room_not_fit _ _ _ i (sym (done_so order output answer after p read f) ∙ e))
   fit_so read (Err cause) f =
-      let r = fitted_is_refused (order_at order) (fitted_of (order_at order)).build cause (limits order output answer after p read) (whole order output answer after p read (Err cause) f) in
+      let r = fitted_is_refused (order_at order) cause (limits order output answer after p read) f in
       let same : Err cause ≡ Err (OfCall (FirstFit i)) = sym (refused_so order output answer after p read f) ∙ e in
-      let task : OfCall (FirstFit r.1.1.0) ≡ OfCall (FirstFit i) = sym r.1.1.1 ∙ cc same in
-      (r.1.0, subst (RefusedIn (order_at order) r.1.0) (cc task) r.1.1.2)
+      let task : OfCall (FirstFit r.1.0) ≡ OfCall (FirstFit i) = sym r.1.1 ∙ cc same in
+      (r.0, subst (RefusedIn (order_at order) r.0) (cc task) r.1.2)
 
 pub refuses_where_fit_runs_out : RefusesWhereFitRunsOut
 refuses_where_fit_runs_out order output answer after i p = (there, back)
@@ -164,9 +159,8 @@ refuses_where_fit_runs_out order output answer after i p = (there, back)
     there : answer ≡ Err (OfCall (FirstFit i)) → ((read_order order).answer ≡ Ok 0) × ((s : Placing) × RefusedIn (order_at order) s i)
     there e =
         let read = read_so order output answer after i p e (read_order order).answer refl in
-        (read, fit_so order output answer after i p e read (fitted_of (order_at order)).answer refl)
+        (read, fit_so order output answer after i p e read (fitted_of (order_at order)) refl)
 
     back : ((read_order order).answer ≡ Ok 0) × ((s : Placing) × RefusedIn (order_at order) s i) → answer ≡ Err (OfCall (FirstFit i))
     back (read, (s, is)) =
-        refused_so order output answer after p read
-        (ap (λ (x : Fitted). x.answer) (refused_is_fitted (order_at order) s i (limits order output answer after p read) is))
+        refused_so order output answer after p read (refused_is_fitted (order_at order) s i (limits order output answer after p read) is)

@@ -10,13 +10,13 @@ use Rattle.order.specs.Order.{order_at, read_order}
 use Rattle.fitting.specs.declared.Placing.{Placing}
 use Rattle.fitting.specs.Claims.{RefusedIn}
 use Rattle.fit.specs.Claims.{Built}
-use Rattle.fit.specs.Recorded.{fitted_of}
+use Rattle.fit.specs.Recorded.{fitted_of, build_in}
 use Rattle.plan.specs.Plan.{size_of, plan_rules, plan_answer, Plans}
 
 -- "for that cause only": a plan's answer is the right one, by the rule that is broken first, and no other is
 abbrev pub OnePlanAnswer : Type 0
 OnePlanAnswer = (order : List ℕ) (room : ℕ) (answer : Answer)
-    → (answer ≡ plan_answer order room) ↔ RightAnswer (size_of (fitted_of (order_at order)).build) (plan_rules order room) answer
+    → (answer ≡ plan_answer order room) ↔ RightAnswer (size_of (build_in (fitted_of (order_at order)))) (plan_rules order room) answer
 
 -- "On refusal the output is unchanged; on success only the counted front changes."
 abbrev pub PlansOnlyCountedFront : Type 0
@@ -30,7 +30,7 @@ RefusesWhereFitRunsOut = (order output : List ℕ) (answer : Answer) (after : Li
 -- "a sound order with room for its build is refused only where that method runs out of accelerators"
 abbrev pub SoundIsPlanned : Type 0
 SoundIsPlanned = (order output : List ℕ) (answer : Answer) (after : List ℕ) → Plans order output answer after → (read_order order).answer ≡ Ok 0
-    → ((b : Build) × (fitted_of (order_at order) ≡ record { answer = Ok 0; build = b }) × Built (order_at order) b × (size_of b ≤ length output → answer ≡ Ok (size_of b)))
+    → ((b : Build) × (fitted_of (order_at order) ≡ Ok b) × Built (order_at order) b × (size_of b ≤ length output → answer ≡ Ok (size_of b)))
     ⊎ ((s : Placing) × (i : ℕ) × (answer ≡ Err (OfCall (FirstFit i))) × RefusedIn (order_at order) s i)
 
 -- one possible answer and content for every input

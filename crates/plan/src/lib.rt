@@ -24,16 +24,7 @@ pub fn plan(order: &[u8], out: &mut [u8]) -> Result<u32, Refusal>
     ensures { Plans order.now out.old result out.new }
 {
     let reading = order::read_order(order);
-    let read = reading.answer;
-    if let Err(cause) = read {
-        return Err(cause);
-    }
-    let its = reading.order;
-    let fitted = fit::first_fit(its);
-    let placed = fitted.answer;
-    if let Err(cause) = placed {
-        return Err(cause);
-    }
-    let build = fitted.build;
+    reading.answer?;
+    let build = fit::first_fit(&reading.order)?;
     put_build(build, out)
 }

@@ -1,5 +1,5 @@
 -- From what bytes read as, and what first fit says of that, to what reading and planning them gives.
-use Rattle.std.specs.Prelude.{Ok, Err}
+use Rattle.std.specs.Prelude.{Result, Ok, Err}
 use mathlib.Core.Path.{◌≡◌, refl, sym, ap, ◌∙◌}
 use mathlib.Core.List.{List, ◌++◌}
 use Prim.Native.Nat.{ℕ, ◌≤◌}
@@ -15,9 +15,8 @@ use Rattle.model.proofs.Rules.{room_on}
 use Rattle.order.specs.Order.{order_at, read_order}
 use Rattle.order.proofs.Reading.{read_answer, read_rules, read_order_lem}
 use Rattle.build.specs.Build.{build_bytes}
-use Rattle.fit.specs.declared.records.Fitted.{Fitted}
 use Rattle.plan.specs.Plan.{size_of, fitted_rules, Plans}
-use Rattle.fit.specs.Recorded.{fitted_of}
+use Rattle.fit.specs.Recorded.{fitted_of, build_in}
 use Rattle.plan.proofs.Rules.{fit_stop, fit_on, plan_order, plan_fitted}
 use Rattle.points.specs.Points.{AnswerIs, PlanGives, OrderAccepted, OrderRefused}
 
@@ -38,7 +37,7 @@ order_refused order cause e =
         answer = Err cause;
         plans = record {
           answered = sym (plan_order order (length output) (sym (read_answer order) ∙ e));
-          written = sym (after_refused cause (build_bytes (fitted_of (order_at order)).build) output);
+          written = sym (after_refused cause (build_bytes (build_in (fitted_of (order_at order)))) output);
         };
         answer_is = refused_is cause;
       };
@@ -52,27 +51,27 @@ module _ (order : List ℕ) (o : Order) (reads : read_order order ≡ record { a
   pub order_is : order_at order ≡ o
   order_is = sym (read_order_lem order read_done) ∙ ap (λ (x : Reading). x.order) reads
 
-  pub fit_refused : (cause : Refusal) → (fitted_of o).answer ≡ Err cause → (output : List ℕ) → PlanGives order output (cause_number cause) (cause_place cause) 0 output
+  pub fit_refused : (cause : Refusal) → fitted_of o ≡ Err cause → (output : List ℕ) → PlanGives order output (cause_number cause) (cause_place cause) 0 output
   fit_refused cause e output =
       let found = fitted_of (order_at order) in
-      let runs_out = fit_stop (size_of found.build) (order_at order) found (length output) (ap (λ (x : Order). (fitted_of x).answer) order_is ∙ e) in
+      let runs_out = fit_stop (size_of (build_in found)) (order_at order) found (length output) (ap fitted_of order_is ∙ e) in
       record {
         answer = Err cause;
         plans = record {
           answered = sym (plan_fitted order (length output) (read_rules order read_done) ∙ runs_out);
-          written = sym (after_refused cause (build_bytes found.build) output);
+          written = sym (after_refused cause (build_bytes (build_in found)) output);
         };
         answer_is = refused_is cause;
       }
 
-  module _ (b : Build) (fits : fitted_of o ≡ record { answer = Ok 0; build = b }) where
+  module _ (b : Build) (fits : fitted_of o ≡ Ok b) where
     pub plans_build : (output : List ℕ) → size_of b ≤ length output → Plans order output (Ok (size_of b)) (build_bytes b ++ drop (size_of b) output)
     plans_build output room =
-        let found : fitted_of (order_at order) ≡ record { answer = Ok 0; build = b } = ap fitted_of order_is ∙ fits in
-        let in-room = fit_on (size_of b) (order_at order) (record { answer = Ok 0; build = b }) (length output) refl ∙ room_on (size_of b) (size_of b) (length output) room in
+        let found : fitted_of (order_at order) ≡ Ok b = ap fitted_of order_is ∙ fits in
+        let in-room = fit_on (size_of b) (order_at order) (Ok b) (length output) refl ∙ room_on (size_of b) (size_of b) (length output) room in
         record {
-          answered = sym (plan_fitted order (length output) (read_rules order read_done) ∙ (ap (λ (x : Fitted). first_broken (size_of x.build) (fitted_rules (order_at order) x (length output))) found ∙ in-room));
-          written = sym (ap (λ (x : Fitted). output_after (Ok (size_of b)) (build_bytes x.build) output) found ∙ after_done (size_of b) (build_bytes b) output);
+          answered = sym (plan_fitted order (length output) (read_rules order read_done) ∙ (ap (λ (x : Result Build Refusal). first_broken (size_of (build_in x)) (fitted_rules (order_at order) x (length output))) found ∙ in-room));
+          written = sym (ap (λ (x : Result Build Refusal). output_after (Ok (size_of b)) (build_bytes (build_in x)) output) found ∙ after_done (size_of b) (build_bytes b) output);
         }
 
     pub order_accepted : OrderAccepted order o (size_of b) (build_bytes b)

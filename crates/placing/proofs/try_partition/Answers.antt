@@ -7,7 +7,7 @@ use Rattle.model.specs.Limits.{most_tasks}
 use Rattle.laws.proofs.Overlaid.{length-overlaid}
 use Rattle.roster.specs.Keys.{home_in, lives_in, run_from}
 use Rattle.placing.specs.Known.{TryingIn}
-use Rattle.placing.proofs.Stage.{size_is, size_small, ready, told}
+use Rattle.placing.proofs.Stage.{size_is, size_small, ready, told_takes, told_refuses}
 use Rattle.placing.proofs.try_partition.Goals as goal
 
 -- how many members the partition has
@@ -41,18 +41,26 @@ overflow_add-size-2 c =
     let m = c.members_of-size in
     omega (arith, small a.table.now a.keys.now a.lasts.now a.worsts.now a.placed a.first a.key c.requires c.home_in.result m.result c.home_in.ensures m.ensures.size)
 
-pub tries-passes-requires : goal.tries-passes-requires
-tries-passes-requires c =
+pub tries-requires : goal.tries-requires
+tries-requires c =
     let a = c.args in
     let m = c.members_of-size in
     let counted = size_is a.table.now a.keys.now a.lasts.now a.worsts.now a.placed a.first a.key c.requires c.home_in.result m.result c.home_in.ensures m.ensures.size in
     ready a.table.now a.keys.now a.lasts.now a.worsts.now a.placed a.first a.key c.requires m.result c.put_in-newcomer.result _ m.new.own c.put_in-newcomer.new.keys c.fill_rows.new.rows
     counted m.ensures.copied c.put_in-newcomer.ensures.spot c.put_in-newcomer.ensures.line c.fill_rows.ensures
 
-pub returns : goal.returns
-returns c = λ so.
+pub returns-then-tries : goal.returns-then-tries
+returns-then-tries c = λ so.
     let a = c.args in
     let m = c.members_of-size in
     let counted = size_is a.table.now a.keys.now a.lasts.now a.worsts.now a.placed a.first a.key so c.home_in.result m.result c.home_in.ensures m.ensures.size in
-    told a.table.now a.keys.now a.lasts.now a.worsts.now a.placed a.first a.key so m.result c.put_in-newcomer.result _ m.new.own c.put_in-newcomer.new.keys c.fill_rows.new.rows
-    counted m.ensures.copied c.put_in-newcomer.ensures.spot c.put_in-newcomer.ensures.line c.fill_rows.ensures c.tries-passes.result _ _ c.tries-passes.ensures
+    told_takes a.table.now a.keys.now a.lasts.now a.worsts.now a.placed a.first a.key so m.result c.put_in-newcomer.result _ m.new.own c.put_in-newcomer.new.keys c.fill_rows.new.rows
+    counted m.ensures.copied c.put_in-newcomer.ensures.spot c.put_in-newcomer.ensures.line c.fill_rows.ensures c.tries.result _ _ c.tries.ensures c.if-tries.true
+
+pub returns-else-tries : goal.returns-else-tries
+returns-else-tries c = λ so.
+    let a = c.args in
+    let m = c.members_of-size in
+    let counted = size_is a.table.now a.keys.now a.lasts.now a.worsts.now a.placed a.first a.key so c.home_in.result m.result c.home_in.ensures m.ensures.size in
+    told_refuses a.table.now a.keys.now a.lasts.now a.worsts.now a.placed a.first a.key so m.result c.put_in-newcomer.result _ m.new.own c.put_in-newcomer.new.keys c.fill_rows.new.rows
+    counted m.ensures.copied c.put_in-newcomer.ensures.spot c.put_in-newcomer.ensures.line c.fill_rows.ensures c.tries.result _ _ c.tries.ensures c.if-tries.false

@@ -1,45 +1,39 @@
-use mathlib.Core.Path.{ap}
-use native.Mathlib.Omega.{arith}
-use lib.ListN.{replicate}
+use Rattle.std.proofs.Common.{arith, ◌≡◌, ◌<◌, ℕ, List, take, length, get_or, ap, ◌∙◌, replicate, refl}
+use Rattle.std.proofs.lemmas.List.{get_or-take, length-take}
+use borrow.Author.Tests.{eq-eqb, ne_eqb}
 use Rattle.model.specs.declared.build.Member.{Member}
-use Rattle.fit.proofs.Writing.{filling_none, few_tasks, number_small, begun', filling_more, filling_all}
+use Rattle.roster.specs.Keys.{home_in, key_number}
+use Rattle.fit.proofs.Writing.{filling_none, few_tasks, filling_next, filling_all}
 use Rattle.fit.proofs.records.records_of.Goals as goal
+use Rattle.fit.proofs.records.records_of.Goals.{then-home_in-home, else-home_in-home}
 
 pub loop-place-init : goal.loop-place-init
 loop-place-init c = filling_none _ _ _ _ (ap (λ (x : Member). replicate 32 x) c.zero-members.ensures)
 
-pub offset_bounds-keys-place : goal.offset_bounds-keys-place
-offset_bounds-keys-place c = omega (arith, c.loop-place-test.true, few_tasks c.args.keys.now c.args.worsts.now c.args.tasks c.requires)
+inside : (keys : List ℕ) (tasks place : ℕ) → place < length (take tasks keys) → place < tasks
+inside keys tasks place l = omega (arith, length-take tasks keys)
 
-pub bounds-keys-place : goal.bounds-keys-place
-bounds-keys-place c = omega (arith, c.loop-place-test.true, few_tasks c.args.keys.now c.args.worsts.now c.args.tasks c.requires)
-
-pub overflow_sub-members : goal.overflow_sub-members
-overflow_sub-members c = begun' c.args.keys.now c.args.worsts.now c.args.tasks c.requires c.loop-place.members c.loop-place.first c.loop-place.home c.loop-place.place c.first_of-first.result c.loop-place.invariant c.loop-place-test.true c.first_of-first.ensures
-
-pub overflow_cast-members : goal.overflow_cast-members
-overflow_cast-members c = omega (arith, c.loop-place-test.true, few_tasks c.args.keys.now c.args.worsts.now c.args.tasks c.requires)
-
-pub offset_bounds-worsts-number : goal.offset_bounds-worsts-number
-offset_bounds-worsts-number c = omega (arith, number_small c.args.keys.now c.args.worsts.now c.args.tasks c.requires c.loop-place.place c.loop-place-test.true, c.number_in-number.ensures)
-
-pub bounds-worsts-number : goal.bounds-worsts-number
-bounds-worsts-number c = omega (arith, number_small c.args.keys.now c.args.worsts.now c.args.tasks c.requires c.loop-place.place c.loop-place-test.true, c.number_in-number.ensures)
-
-pub offset_bounds-members-number : goal.offset_bounds-members-number
-offset_bounds-members-number c = omega (arith, number_small c.args.keys.now c.args.worsts.now c.args.tasks c.requires c.loop-place.place c.loop-place-test.true, c.number_in-number.ensures)
-
-pub bounds-members-number : goal.bounds-members-number
-bounds-members-number c = omega (arith, number_small c.args.keys.now c.args.worsts.now c.args.tasks c.requires c.loop-place.place c.loop-place-test.true, c.number_in-number.ensures)
-
-pub overflow_add-place : goal.overflow_add-place
-overflow_add-place c = omega (arith, c.loop-place-test.true, few_tasks c.args.keys.now c.args.worsts.now c.args.tasks c.requires)
-
-pub loop-place-smaller : goal.loop-place-smaller
-loop-place-smaller c = (let early = c.loop-place-test.true in omega arith)
+key_here : (keys : List ℕ) (tasks place : ℕ) → place < length (take tasks keys) → get_or (take tasks keys) place 0 ≡ get_or keys place 0
+key_here keys tasks place l = get_or-take tasks keys place 0 (inside keys tasks place l)
 
 pub loop-place-preserved : goal.loop-place-preserved
-loop-place-preserved c = rw (c.number_in-number.ensures, c.home_in-home.ensures) (filling_more c.args.keys.now c.args.worsts.now c.args.tasks c.requires c.loop-place.members c.loop-place.first c.loop-place.home c.loop-place.place c.first_of-first.result c.loop-place.invariant c.loop-place-test.true c.first_of-first.ensures)
+loop-place-preserved c =
+    let keys = c.args.keys.now in
+    let place = c.loop-place.place in
+    let below : place < c.args.tasks = inside keys c.args.tasks place c.loop-place-test.true in
+    let key : get_or (take c.args.tasks keys) place 0 ≡ get_or keys place 0 = key_here keys c.args.tasks place c.loop-place-test.true in
+    let there : c.number_in-number.result ≡ key_number (get_or keys place 0) = c.number_in-number.ensures ∙ ap key_number key in
+    let home : c.home_in.result ≡ home_in (get_or keys place 0) = c.home_in.ensures ∙ ap home_in key in
+    elim c.if-home_in-home.branch [
+      | then-home_in-home w ↦
+          filling_next _ _ _ c.requires _ _ _ _ _ c.loop-place.invariant below (w.first-is ∙ rw (ne_eqb _ _ (λ e. w.if-home_in-home.true (home ∙ e))) refl)
+          _ _ (w.home-is ∙ w.home_in-home.ensures ∙ ap home_in key) there
+      | else-home_in-home w ↦
+          (let same : home_in (get_or keys place 0) ≡ c.loop-place.home = cc (home, w.if-home_in-home.false) in
+          filling_next _ _ _ c.requires _ _ _ _ _ c.loop-place.invariant below (w.first-is ∙ rw (eq-eqb _ _ same) refl)
+          _ _ (cc (w.home-is, same)) there)
+    ]
 
 pub returns : goal.returns
-returns c = λ so. filling_all c.args.keys.now c.args.worsts.now c.args.tasks so c.loop-place.members c.loop-place.first c.loop-place.home c.loop-place.place c.loop-place.invariant c.loop-place-test.false
+returns c = λ so.
+    filling_all _ _ _ so _ _ _ _ c.loop-place.invariant (omega (arith, length-take c.args.tasks c.args.keys.now, few_tasks _ _ _ so))

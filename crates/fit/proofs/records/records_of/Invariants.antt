@@ -1,9 +1,5 @@
-use Prim.Native.Nat.{◌-◌}
 use Rattle.fit.proofs.Writing.{Filling}
 use Rattle.fit.proofs.records.records_of.Given as goal
 
 abbrev pub invariant-loop-place : goal.invariant-loop-place
 invariant-loop-place l = Filling l.keys l.worsts l.tasks l.members l.first l.home l.place
-
-abbrev pub decreases-loop-place : goal.decreases-loop-place
-decreases-loop-place l = l.tasks - l.place

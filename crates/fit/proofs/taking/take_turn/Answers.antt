@@ -1,67 +1,68 @@
-use mathlib.Core.Path.{sym, ap, ◌∙◌}
-use native.Mathlib.Omega.{arith}
-use Rattle.fitting.specs.Steps.{going_on}
+use Rattle.std.proofs.Common.{arith, refl, sym, ap, ◌∙◌, Ok}
 use Rattle.fit.proofs.Turn.{few_tasks, idle_turn, task_small, trying, deadline_near, opened_few, seated, found_few, none_takes}
 use Rattle.fit.proofs.taking.take_turn.Goals as goal
 
-pub next_task-next-requires : goal.next_task-next-requires
-next_task-next-requires c = few_tasks c.args.order c.args.table.now c.args.placing c.args.placed c.args.keys.now c.args.lasts.now c.args.worsts.now c.requires
+pub next_task-requires : goal.next_task-requires
+next_task-requires c = few_tasks _ _ _ _ _ _ _ c.requires
 
 pub returns-in_default : goal.returns-in_default
-returns-in_default c = idle_turn c.args.order c.args.table.now c.args.placing c.args.placed c.args.keys.now c.args.lasts.now c.args.worsts.now c.requires c.going_on.result (sym c.next_task-next.ensures ∙ c.in_default.is) c.going_on.ensures _ _ _
+returns-in_default c = idle_turn _ _ _ _ _ _ _ c.requires _ (sym c.next_task.ensures ∙ c.in_default.is) refl _ _ _
 
 pub overflow_add-deadline : goal.overflow_add-deadline
-overflow_add-deadline c = omega (arith, task_small c.args.order c.args.table.now c.args.placing c.args.placed c.args.keys.now c.args.lasts.now c.args.worsts.now c.requires c.in-Some.number (sym c.next_task-next.ensures ∙ c.in-Some.is))
+overflow_add-deadline c = omega (arith, task_small _ _ _ _ _ _ _ c.requires _ (sym c.in-Some.ensures))
 
 pub offset_bounds-table-task : goal.offset_bounds-table-task
-offset_bounds-table-task c = omega (arith, task_small c.args.order c.args.table.now c.args.placing c.args.placed c.args.keys.now c.args.lasts.now c.args.worsts.now c.requires c.in-Some.number (sym c.next_task-next.ensures ∙ c.in-Some.is))
+offset_bounds-table-task c = omega (arith, task_small _ _ _ _ _ _ _ c.requires _ (sym c.in-Some.ensures))
 
 pub bounds-table-task : goal.bounds-table-task
-bounds-table-task c = omega (arith, task_small c.args.order c.args.table.now c.args.placing c.args.placed c.args.keys.now c.args.lasts.now c.args.worsts.now c.requires c.in-Some.number (sym c.next_task-next.ensures ∙ c.in-Some.is))
+bounds-table-task c = omega (arith, task_small _ _ _ _ _ _ _ c.requires _ (sym c.in-Some.ensures))
 
 pub lowest_accepting-found-requires : goal.lowest_accepting-found-requires
-lowest_accepting-found-requires c = (trying c.args.order c.args.table.now c.args.placing c.args.placed c.args.keys.now c.args.lasts.now c.args.worsts.now c.requires c.in-Some.number (sym c.next_task-next.ensures ∙ c.in-Some.is), omega (arith, opened_few c.args.order c.args.table.now c.args.placing c.args.placed c.args.keys.now c.args.lasts.now c.args.worsts.now c.requires c.in-Some.number (sym c.next_task-next.ensures ∙ c.in-Some.is)))
+lowest_accepting-found-requires c = (trying _ _ _ _ _ _ _ c.requires _ (sym c.in-Some.ensures), omega (arith, opened_few _ _ _ _ _ _ _ c.requires _ (sym c.in-Some.ensures)))
 
-pub overflow_cast-home : goal.overflow_cast-home
-overflow_cast-home c = omega (arith, found_few c.args.order c.args.table.now c.args.placing c.args.placed c.args.keys.now c.args.lasts.now c.args.worsts.now c.requires c.in-Some.number (sym c.next_task-next.ensures ∙ c.in-Some.is) c.in-Some-found.home c.lowest_accepting-found.result _ _ (c.lowest_accepting-found.ensures (trying c.args.order c.args.table.now c.args.placing c.args.placed c.args.keys.now c.args.lasts.now c.args.worsts.now c.requires c.in-Some.number (sym c.next_task-next.ensures ∙ c.in-Some.is))) c.in-Some-found.is)
-
+-- the partition that takes it
 pub key_of-requires : goal.key_of-requires
-key_of-requires c = (found_few c.args.order c.args.table.now c.args.placing c.args.placed c.args.keys.now c.args.lasts.now c.args.worsts.now c.requires c.in-Some.number (sym c.next_task-next.ensures ∙ c.in-Some.is) c.in-Some-found.home c.lowest_accepting-found.result _ _ (c.lowest_accepting-found.ensures (trying c.args.order c.args.table.now c.args.placing c.args.placed c.args.keys.now c.args.lasts.now c.args.worsts.now c.requires c.in-Some.number (sym c.next_task-next.ensures ∙ c.in-Some.is))) c.in-Some-found.is, deadline_near c.args.order c.args.table.now c.args.placing c.args.placed c.args.keys.now c.args.lasts.now c.args.worsts.now c.requires c.in-Some.number (sym c.next_task-next.ensures ∙ c.in-Some.is), task_small c.args.order c.args.table.now c.args.placing c.args.placed c.args.keys.now c.args.lasts.now c.args.worsts.now c.requires c.in-Some.number (sym c.next_task-next.ensures ∙ c.in-Some.is))
+key_of-requires c =
+    let lowest = c.lowest_accepting-found.ensures (trying _ _ _ _ _ _ _ c.requires _ (sym c.in-Some.ensures)) in
+    (found_few _ _ _ _ _ _ _ c.requires _ (sym c.in-Some.ensures) _ _ _ _ lowest c.in-Some-found.is, deadline_near _ _ _ _ _ _ _ c.requires _ (sym c.in-Some.ensures), task_small _ _ _ _ _ _ _ c.requires _ (sym c.in-Some.ensures))
 
 pub put_in-requires : goal.put_in-requires
-put_in-requires c = (omega (arith, c.requires.early, few_tasks c.args.order c.args.table.now c.args.placing c.args.placed c.args.keys.now c.args.lasts.now c.args.worsts.now c.requires), c.requires.lines.key_places)
+put_in-requires c = (omega (arith, c.requires.early, few_tasks _ _ _ _ _ _ _ c.requires), c.requires.lines.key_places)
 
 pub put-requires : goal.put-requires
-put-requires c = task_small c.args.order c.args.table.now c.args.placing c.args.placed c.args.keys.now c.args.lasts.now c.args.worsts.now c.requires c.in-Some.number (sym c.next_task-next.ensures ∙ c.in-Some.is)
+put-requires c = task_small _ _ _ _ _ _ _ c.requires _ (sym c.in-Some.ensures)
 
 pub returns-in-Some-found : goal.returns-in-Some-found
-returns-in-Some-found c = seated c.args.order c.args.table.now c.args.placing c.args.placed c.args.keys.now c.args.lasts.now c.args.worsts.now c.requires c.in-Some.number (sym c.next_task-next.ensures ∙ c.in-Some.is) c.in-Some-found.home c.key_of.result c.lowest_accepting-found.result _ _ _ c.going_on-in-Some-found.result
-    (c.lowest_accepting-found.ensures (trying c.args.order c.args.table.now c.args.placing c.args.placed c.args.keys.now c.args.lasts.now c.args.worsts.now c.requires c.in-Some.number (sym c.next_task-next.ensures ∙ c.in-Some.is))) c.in-Some-found.is c.key_of.ensures c.put_in.ensures.line (c.going_on-in-Some-found.ensures ∙ ap going_on c.put.ensures)
+returns-in-Some-found c =
+    let lowest = c.lowest_accepting-found.ensures (trying _ _ _ _ _ _ _ c.requires _ (sym c.in-Some.ensures)) in
+    seated _ _ _ _ _ _ _ c.requires _ (sym c.in-Some.ensures) _ _ _ _ _ _ _ lowest c.in-Some-found.is c.key_of.ensures c.put_in.ensures.line (ap Ok c.put.ensures)
 
+-- none takes it
 pub overflow_add-worsts : goal.overflow_add-worsts
-overflow_add-worsts c = omega (arith, task_small c.args.order c.args.table.now c.args.placing c.args.placed c.args.keys.now c.args.lasts.now c.args.worsts.now c.requires c.in-Some.number (sym c.next_task-next.ensures ∙ c.in-Some.is))
+overflow_add-worsts c = omega (arith, task_small _ _ _ _ _ _ _ c.requires _ (sym c.in-Some.ensures))
 
 pub offset_bounds-table-task-2 : goal.offset_bounds-table-task-2
-offset_bounds-table-task-2 c = omega (arith, task_small c.args.order c.args.table.now c.args.placing c.args.placed c.args.keys.now c.args.lasts.now c.args.worsts.now c.requires c.in-Some.number (sym c.next_task-next.ensures ∙ c.in-Some.is))
+offset_bounds-table-task-2 c = omega (arith, task_small _ _ _ _ _ _ _ c.requires _ (sym c.in-Some.ensures))
 
 pub bounds-table-task-2 : goal.bounds-table-task-2
-bounds-table-task-2 c = omega (arith, task_small c.args.order c.args.table.now c.args.placing c.args.placed c.args.keys.now c.args.lasts.now c.args.worsts.now c.requires c.in-Some.number (sym c.next_task-next.ensures ∙ c.in-Some.is))
+bounds-table-task-2 c = omega (arith, task_small _ _ _ _ _ _ _ c.requires _ (sym c.in-Some.ensures))
 
 pub offset_bounds-worsts-task : goal.offset_bounds-worsts-task
-offset_bounds-worsts-task c = omega (arith, task_small c.args.order c.args.table.now c.args.placing c.args.placed c.args.keys.now c.args.lasts.now c.args.worsts.now c.requires c.in-Some.number (sym c.next_task-next.ensures ∙ c.in-Some.is))
+offset_bounds-worsts-task c = omega (arith, task_small _ _ _ _ _ _ _ c.requires _ (sym c.in-Some.ensures))
 
 pub bounds-worsts-task : goal.bounds-worsts-task
-bounds-worsts-task c = task_small c.args.order c.args.table.now c.args.placing c.args.placed c.args.keys.now c.args.lasts.now c.args.worsts.now c.requires c.in-Some.number (sym c.next_task-next.ensures ∙ c.in-Some.is)
+bounds-worsts-task c = omega (arith, task_small _ _ _ _ _ _ _ c.requires _ (sym c.in-Some.ensures))
 
 pub key_of-requires-2 : goal.key_of-requires-2
-key_of-requires-2 c = (opened_few c.args.order c.args.table.now c.args.placing c.args.placed c.args.keys.now c.args.lasts.now c.args.worsts.now c.requires c.in-Some.number (sym c.next_task-next.ensures ∙ c.in-Some.is), deadline_near c.args.order c.args.table.now c.args.placing c.args.placed c.args.keys.now c.args.lasts.now c.args.worsts.now c.requires c.in-Some.number (sym c.next_task-next.ensures ∙ c.in-Some.is), task_small c.args.order c.args.table.now c.args.placing c.args.placed c.args.keys.now c.args.lasts.now c.args.worsts.now c.requires c.in-Some.number (sym c.next_task-next.ensures ∙ c.in-Some.is))
+key_of-requires-2 c = (opened_few _ _ _ _ _ _ _ c.requires _ (sym c.in-Some.ensures), deadline_near _ _ _ _ _ _ _ c.requires _ (sym c.in-Some.ensures), task_small _ _ _ _ _ _ _ c.requires _ (sym c.in-Some.ensures))
 
 pub put_in-requires-2 : goal.put_in-requires-2
-put_in-requires-2 c = (omega (arith, c.requires.early, few_tasks c.args.order c.args.table.now c.args.placing c.args.placed c.args.keys.now c.args.lasts.now c.args.worsts.now c.requires), c.requires.lines.key_places)
+put_in-requires-2 c = (omega (arith, c.requires.early, few_tasks _ _ _ _ _ _ _ c.requires), c.requires.lines.key_places)
 
 pub open_for-requires : goal.open_for-requires
-open_for-requires c = (task_small c.args.order c.args.table.now c.args.placing c.args.placed c.args.keys.now c.args.lasts.now c.args.worsts.now c.requires c.in-Some.number (sym c.next_task-next.ensures ∙ c.in-Some.is), opened_few c.args.order c.args.table.now c.args.placing c.args.placed c.args.keys.now c.args.lasts.now c.args.worsts.now c.requires c.in-Some.number (sym c.next_task-next.ensures ∙ c.in-Some.is), c.requires.lines.stands.laid.inside, c.requires.limits.processors.1)
+open_for-requires c = (task_small _ _ _ _ _ _ _ c.requires _ (sym c.in-Some.ensures), opened_few _ _ _ _ _ _ _ c.requires _ (sym c.in-Some.ensures), c.requires.lines.stands.laid.inside, c.requires.limits.processors.1)
 
 pub returns : goal.returns
-returns c = none_takes c.args.order c.args.table.now c.args.placing c.args.placed c.args.keys.now c.args.lasts.now c.args.worsts.now c.requires c.in-Some.number (sym c.next_task-next.ensures ∙ c.in-Some.is) c.key_of-2.result c.lowest_accepting-found.result _ _ _ c.open_for.result
-    (c.lowest_accepting-found.ensures (trying c.args.order c.args.table.now c.args.placing c.args.placed c.args.keys.now c.args.lasts.now c.args.worsts.now c.requires c.in-Some.number (sym c.next_task-next.ensures ∙ c.in-Some.is))) c.in_default-found.is c.key_of-2.ensures c.put_in-2.ensures.line c.open_for.ensures
+returns c =
+    let lowest = c.lowest_accepting-found.ensures (trying _ _ _ _ _ _ _ c.requires _ (sym c.in-Some.ensures)) in
+    none_takes _ _ _ _ _ _ _ c.requires _ (sym c.in-Some.ensures) _ _ _ _ _ _ lowest c.in_default-found.is c.key_of-2.ensures c.put_in-2.ensures.line c.open_for.ensures

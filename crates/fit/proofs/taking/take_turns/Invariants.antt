@@ -1,10 +1,6 @@
-use Prim.Native.Nat.{◌-◌}
 use Rattle.model.specs.Rules.{WithinLimits}
 use Rattle.fit.proofs.Loop.{Between}
 use Rattle.fit.proofs.taking.take_turns.Given as goal
 
 abbrev pub invariant-loop-placed : goal.invariant-loop-placed
 invariant-loop-placed l = (limits : WithinLimits l.order) × Between l.order limits l.placing l.placed l.keys l.lasts l.worsts
-
-abbrev pub decreases-loop-placed : goal.decreases-loop-placed
-decreases-loop-placed l = l.order.tasks - l.placed
