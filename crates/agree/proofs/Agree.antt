@@ -17,7 +17,7 @@ use Rattle.model.specs.Processors.{volume_of, processor_of, AmongLowest}
 use Rattle.model.specs.Answer.{output_after}
 use Rattle.model.specs.Rules.{WithinLimits}
 use Rattle.model.proofs.Output.{after_done}
-use Rattle.model.proofs.Rules.{AllPass, never}
+use Rattle.model.proofs.Rules.{AllPass}
 use Rattle.order.specs.Order.{order_at, order_rules}
 use Rattle.order.proofs.Reading.{within_limits, header_holds, spares_hold}
 use Rattle.build.specs.Build.{build_at, build_bytes, build_header_of}

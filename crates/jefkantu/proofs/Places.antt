@@ -1,6 +1,6 @@
 -- Every place and count that the functions of orders, builds, runs and texts answer fits its part of the word.
 use Rattle.std.specs.Prelude.{Result, Ok, Err}
-use mathlib.Core.Path.{◌≡◌, refl, ap}
+use mathlib.Core.Path.{◌≡◌, refl}
 use mathlib.Core.List.{List, [], ◌∷◌}
 use Prim.Native.Nat.{ℕ, ◌%◌, ◌≤◌, ◌<◌}
 use native.Mathlib.Omega.{arith}
@@ -13,7 +13,6 @@ use Rattle.laws.proofs.Every.{and_both}
 use Rattle.model.specs.declared.order.Order.{Order}
 use Rattle.model.specs.declared.build.Build.{Build}
 use Rattle.model.specs.declared.answer.Refusal.{Refusal}
-use Rattle.model.specs.Kinds.{Answer}
 use Rattle.model.specs.Layouts.{order_length}
 use Rattle.model.specs.Rules.{range_rules, room_rules, WithinLimits}
 use Rattle.model.proofs.Rules.{AllPass}

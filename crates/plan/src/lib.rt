@@ -23,8 +23,7 @@ fn put_build(build: Build, out: &mut [u8]) -> Result<u32, Refusal>
 pub fn plan(order: &[u8], out: &mut [u8]) -> Result<u32, Refusal>
     ensures { Plans order.now out.old result out.new }
 {
-    let reading = order::read_order(order);
-    reading.answer?;
-    let build = fit::first_fit(&reading.order)?;
+    let order = order::read(order)?;
+    let build = fit::first_fit(&order)?;
     put_build(build, out)
 }
