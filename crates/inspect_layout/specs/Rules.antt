@@ -1,19 +1,18 @@
 -- "20 to 23 in turn": the build's header, its length and its spare bits.
-use Rattle.std.specs.Prelude.{ℕ, ◌<◌, ◌≡◌, Bool, false, ◌&&◌, List, [], ◌∷◌, length, eqb, Ok, Err}
+use Rattle.std.specs.Prelude.{ℕ, ◌<◌, ◌≡◌, Bool, false, ◌&&◌, List, [], ◌∷◌, length, eqb, Result}
 use Rattle.laws.specs.Choice.{pick, within}
 use Rattle.bits.specs.Layout.{bytes_in}
 use Rattle.model.specs.declared.order.Order.{Order}
 use Rattle.model.specs.declared.build.Build.{Build}
-use Rattle.model.specs.Kinds.{Answer}
+use Rattle.model.specs.declared.answer.Refusal.{Refusal}
 use Rattle.model.specs.declared.answer.Refusal.TheVariants.{OfBuild}
 use Rattle.model.specs.declared.answer.BuildCause.TheVariants.{BuildShort, BuildMismatch, BuildLength, BuildSpare}
-use Rattle.model.specs.Limits.{most_partitions, empty_build}
+use Rattle.model.specs.Limits.{most_partitions}
 use Rattle.model.specs.Layouts.{build_header, build_length}
-use Rattle.model.specs.Rules.{Fact, Rule, rule, first_broken, equal, at_most, InRange}
+use Rattle.model.specs.Rules.{Fact, Rule, rule, first_broken, given, equal, at_most, InRange}
 use Rattle.build.specs.declared.BuildHeader.{BuildHeader}
 use Rattle.build.specs.Build.{build_header_of, partition_spare_at, member_spare_at, build_at}
 use Rattle.build.specs.Taken.{partitions_clear, members_clear}
-use Rattle.inspect_layout.specs.declared.Laid.{Laid}
 
 -- 21: "build version not 1, M or n not the order's, or p not 1 to 32"
 pub record HeaderMatches (o : Order) (header : BuildHeader) : Type 0 where
@@ -47,10 +46,6 @@ build_layout_rules o s =
     ∷ rule (clear s header.partitions header.tasks) (OfBuild BuildSpare)
     ∷ []
 
--- what the layout's judge answers: 20 to 23, and the build that was read, an empty one on refusal
-abbrev pub laid_by : Answer → Build → Laid
-laid_by (Ok count) b = record { answer = Ok count; build = b }
-laid_by (Err cause) b = record { answer = Err cause; build = empty_build }
-
-abbrev pub LaysOut : Order → List ℕ → Laid → Type 0
-LaysOut o s laid = laid ≡ laid_by (first_broken 0 (build_layout_rules o s)) (build_at s)
+-- what the layout's judge answers: 20 to 23, and the build that was read
+abbrev pub LaysOut : Order → List ℕ → Result Build Refusal → Type 0
+LaysOut o s laid = laid ≡ given (build_at s) (first_broken 0 (build_layout_rules o s))

@@ -6,7 +6,7 @@ ghost use Rattle.laws.specs.Every.{every};
 ghost use Rattle.laws.specs.Joined.{listed};
 ghost use Rattle.model.specs.Limits.{most_partitions, most_processors, place_of};
 ghost use Rattle.model.specs.Processors.{processor_of};
-ghost use Rattle.model.specs.Rules.{first_broken};
+ghost use Rattle.model.specs.Rules.{first_broken, given};
 ghost use Rattle.inspect_places.specs.Rules.{has_processor, place_rules};
 
 use model::{Build, BuildCause, Order, Partition, Refusal};
@@ -15,69 +15,50 @@ use model::{Build, BuildCause, Order, Partition, Refusal};
 const FLAGS: usize = Order::MOST_PROCESSORS as usize;
 
 // None of its processors is taken.
-fn all_free(place: Partition, taken: [bool; FLAGS]) -> bool
+fn all_free(place: Partition, taken: &[bool; FLAGS]) -> bool
     requires { place.first + place.volume ≤ most_processors }
-    ensures { result ≡ every (λ k. not (get_or taken (processor_of place k) false)) place.volume }
+    ensures { result ≡ every (λ k. not (get_or taken.now (processor_of place k) false)) place.volume }
 {
     let first = place.first as usize;
     let volume = place.volume as usize;
-    let mut k: usize = 0;
-    while k < volume {
-        let flag = taken[first + k];
-        if flag {
-            return false;
-        }
-        k += 1;
-    }
-    true
+    let own = &taken[first..first + volume];
+    own.iter().all(|flag| !*flag)
 }
 
 // Its processors are taken too.
-fn take_all(place: Partition, taken: [bool; FLAGS]) -> [bool; FLAGS]
-    requires { (place.first + place.volume ≤ most_processors) × (length taken ≡ most_processors) }
-    ensures { result ≡ listed (λ x. get_or taken x false || has_processor place x) most_processors }
+fn take_all(place: Partition, taken: &mut [bool; FLAGS])
+    requires fits { place.first + place.volume ≤ most_processors }
+    requires one_a_processor { length taken.old ≡ most_processors }
+    ensures { taken.new ≡ listed (λ x. get_or taken.old x false || has_processor place x) most_processors }
 {
     let first = place.first as usize;
     let volume = place.volume as usize;
-    let mut more = taken;
-    let mut k: usize = 0;
-    while k < volume {
-        more[first + k] = true;
-        k += 1;
-    }
-    more
+    taken[first..first + volume].fill(true);
 }
 
 // Volume 0, past M, or a processor that is taken.
-fn partition_right(processors: u32, place: Partition, taken: [bool; FLAGS]) -> bool
-    requires { (processors ≤ most_processors) × (place.volume < 2 ^ 7) × (place.first < 2 ^ 6) }
-    ensures { result ≡ leb 1 place.volume && (leb (place.first + place.volume) processors && every (λ k. not (get_or taken (processor_of place k) false)) place.volume) }
+fn partition_right(processors: u32, place: Partition, taken: &[bool; FLAGS]) -> bool
+    requires few { processors ≤ most_processors }
+    requires volume_fits { place.volume < 2 ^ 7 }
+    requires first_fits { place.first < 2 ^ 6 }
+    ensures { result ≡ leb 1 place.volume && (leb (place.first + place.volume) processors && every (λ k. not (get_or taken.now (processor_of place k) false)) place.volume) }
 {
-    if place.volume < 1 {
-        return false;
-    }
-    if processors < place.first + place.volume {
-        return false;
-    }
-    all_free(place, taken)
+    1 <= place.volume && place.first + place.volume <= processors && all_free(place, taken)
 }
 
 // All partitions, each against what the earlier ones have taken.
-pub fn judge_places(order: Order, build: Build) -> Result<u32, Refusal>
-    requires { (order.processors ≤ most_processors) × (build.partitions ≤ most_partitions) × ((p : ℕ) → p < build.partitions → ((place_of build p).volume < 2 ^ 7) × ((place_of build p).first < 2 ^ 6)) }
-    ensures { result ≡ first_broken 0 (place_rules order build) }
+pub fn judge_places(order: &Order, build: &Build) -> Result<(), Refusal>
+    requires processors { order.now.processors ≤ most_processors }
+    requires partitions { build.now.partitions ≤ most_partitions }
+    requires places { (p : ℕ) → p < build.now.partitions → ((place_of build.now p).volume < 2 ^ 7) × ((place_of build.now p).first < 2 ^ 6) }
+    ensures { result ≡ given tt (first_broken 0 (place_rules order.now build.now)) }
 {
-    let places = build.places;
     let mut taken = [false; FLAGS];
-    let mut i: usize = 0;
-    while i < build.partitions as usize {
-        let place = places[i];
-        if !partition_right(order.processors, place, taken) {
+    for (i, place) in build.places[..build.partitions as usize].iter().enumerate() {
+        if !partition_right(order.processors, *place, &taken) {
             return Err(Refusal::OfBuild(BuildCause::PartitionPlace(i as u16)));
         }
-        let more = take_all(place, taken);
-        taken = more;
-        i += 1;
+        take_all(*place, &mut taken);
     }
-    Ok(0)
+    Ok(())
 }

@@ -1,31 +1,15 @@
-use borrow.Author.Rules.{rules}
-use Prim.Native.Nat.{ℕ, ◌+◌}
-use mathlib.Core.Path.{◌≡◌, sym, subst}
-use mathlib.Core.Bool.{true, false, not}
-use native.Mathlib.Nat.{le_antisymm}
-use lib.ListN.{get_or}
-use Rattle.laws.specs.Every.{every}
-use Rattle.laws.proofs.Every.{every_none, every_more, every_stop}
+use Rattle.std.proofs.Common.{◌+◌, true, false, ◌≡◌, rules, tests, arith}
+use Rattle.std.specs.List.{between}
+use Rattle.std.proofs.lemmas.Iterator.{cases_from_all, YieldsList-from_slice}
 use Rattle.model.specs.Processors.{processor_of}
+use Rattle.inspect_places.proofs.Flags.{free_all}
 use Rattle.inspect_places.proofs.all_free.Goals as goal
-
-pub loop-k-init : goal.loop-k-init
-loop-k-init c = (search rules, every_none _)
-
-pub returns-then-flag : goal.returns-then-flag
-unfolding processor_of
-returns-then-flag c =
-    let a = c.args in
-    sym (every_stop (λ j. not (get_or a.taken (a.place.first + j) false)) a.place.volume c.loop-k.k c.loop-k-test.true (rw c.if-flag.true))
-
-pub loop-k-preserved : goal.loop-k-preserved
-loop-k-preserved c =
-    let a = c.args in
-    (search rules, every_more (λ j. not (get_or a.taken (a.place.first + j) false)) c.loop-k.k c.loop-k.invariant.1 (rw c.if-flag.false))
 
 pub returns : goal.returns
 unfolding processor_of
 returns c =
-    let a = c.args in
-    let all : c.loop-k.k ≡ a.place.volume = le_antisymm c.loop-k.invariant.0 c.loop-k-test.false in
-    sym (subst (λ (n : ℕ). every (λ j. not (get_or a.taken (a.place.first + j) false)) n ≡ true) all c.loop-k.invariant.1)
+    let first = c.args.place.first in
+    let volume = c.args.place.volume in
+    let own = between first (first + volume) c.args.taken.now in
+    free_all c.args.taken.now first volume (omega arith) c.all.result
+    (cases_from_all _ _ _ (λ x. x ≡ false) (λ x. x ≡ true) c.all.ensures.ran (YieldsList-from_slice own cc) (λ x q k. search (rules, tests)) (λ x q k. search (rules, tests)))
