@@ -1,5 +1,5 @@
 -- What the check promises beyond its definition: claims, proved in proofs/Claims.antt.
-use Rattle.std.specs.Prelude.{ℕ, ◌≤◌, ◌<◌, ◌≡◌, List, ◌↔◌, length, Ok, Err}
+use Rattle.std.specs.Prelude.{ℕ, ◌≤◌, ◌<◌, ◌≡◌, List, ◌↔◌, length, Ok, Err, Result}
 use Rattle.model.specs.declared.order.Order.{Order}
 use Rattle.model.specs.declared.build.Build.{Build}
 use Rattle.model.specs.Kinds.{Answer}
@@ -16,7 +16,7 @@ use Rattle.inspect_layout.specs.Rules.{HeaderMatches, SparesZero}
 use Rattle.inspect_places.specs.Rules.{PartitionRight}
 use Rattle.inspect_members.specs.Rules.{WideEnough}
 use Rattle.inspect_tests.specs.Rules.{WindowThere, StartsThere, IsWorst, InTime}
-use Rattle.inspect.specs.declared.Checked.{Checked}
+use Rattle.inspect.specs.declared.Accepted.{Accepted}
 use Rattle.inspect.specs.Rules.{check_rules, check_answer, Checks, ChecksBoth}
 
 -- 1 to 10 all hold
@@ -73,7 +73,7 @@ abbrev pub CheckingUnique : Type 0
 CheckingUnique = (order build : List ℕ) (one other : Answer) → Checks order build one → Checks order build other → one ≡ other
 
 abbrev pub CheckedUnique : Type 0
-CheckedUnique = (order build : List ℕ) (one other : Checked) → ChecksBoth order build one → ChecksBoth order build other → one ≡ other
+CheckedUnique = (order build : List ℕ) (one other : Result Accepted Refusal) → ChecksBoth order build one → ChecksBoth order build other → one ≡ other
 
 -- "(0 for the check and for an order read)"
 abbrev pub CountsNothing : Type 0

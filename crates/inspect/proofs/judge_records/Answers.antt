@@ -1,48 +1,52 @@
 use mathlib.Core.Path.{sym, ◌∙◌}
-use Rattle.model.proofs.Rules.{done_pass}
+use Rattle.model.proofs.Rules.{done_pass, given_done, given_refused, refused_given, done_given, handed_on}
 use Rattle.inspect_members.specs.Rules.{width_rules, rank_rules}
-use Rattle.inspect_members.specs.Line.{HomesFew}
 use Rattle.inspect.proofs.Chain.{places_stop, widths_stop, ranks_stop, tests_last}
 use Rattle.inspect.proofs.Turn.{homes_few, ranks_passed}
 use Rattle.inspect.proofs.judge_records.Goals as goal
 
-pub judge_places-placed-requires : goal.judge_places-placed-requires
-judge_places-placed-requires c = (c.requires.0.processors.1, c.requires.1.partitions, λ p l. (let fits = c.requires.1.each_place p l in (fits.0, fits.1.0)))
+pub returns-in_err-judge_places : goal.returns-in_err-judge_places
+returns-in_err-judge_places c =
+    let placed = refused_given _ _ (sym c.judge_places.ensures ∙ c.in_err-judge_places.was) in
+    handed_on _ c.from_residual.ensures.1 ∙ sym (given_refused _ _ (places_stop c.args.order.now c.args.build.now placed))
 
-pub returns-in-Err : goal.returns-in-Err
-returns-in-Err c =
-    let a = c.args in
-    sym (places_stop a.order a.build (sym c.judge_places-placed.ensures ∙ c.in-Err.is))
-
-pub judge_widths-wide-requires : goal.judge_widths-wide-requires
-judge_widths-wide-requires c = (c.requires.1.partitions, c.requires.0.tasks.1)
-
-pub returns-in-Err-wide : goal.returns-in-Err-wide
-returns-in-Err-wide c =
-    let a = c.args in
-    sym (widths_stop a.order a.build (sym c.judge_places-placed.ensures ∙ c.in_default.is) (sym c.judge_widths-wide.ensures ∙ c.in-Err-wide.is))
+pub returns-in_err-judge_widths : goal.returns-in_err-judge_widths
+returns-in_err-judge_widths c =
+    let placed = (done_given _ _ (sym c.judge_places.ensures ∙ c.in_ok-judge_places.was)).1 in
+    handed_on _ c.from_residual-in_err-judge_widths.ensures.1
+    ∙ sym (given_refused _ _ (widths_stop c.args.order.now c.args.build.now placed (sym c.judge_widths.ensures ∙ c.in_err-judge_widths.was)))
 
 pub line_up-keys-requires : goal.line_up-keys-requires
 line_up-keys-requires c =
-    let a = c.args in
+    let o = c.args.order.now in
+    let b = c.args.build.now in
     -- where 25 holds, partitions have small numbers
-    let homes : HomesFew a.order a.build = homes_few a.order a.build c.requires.1.partitions (done_pass 0 (width_rules a.order a.build) (sym c.judge_widths-wide.ensures ∙ c.in_default-wide.is)) in
-    (c.requires.0, homes)
+    (c.requires.limits, homes_few o b c.requires.fields.partitions (done_pass 0 (width_rules o b) (sym c.judge_widths.ensures ∙ c.in_ok-judge_widths.was)))
 
-pub judge_ranks-ranked-requires : goal.judge_ranks-ranked-requires
-judge_ranks-ranked-requires c = (c.requires.0, c.line_up-keys.ensures)
-
-pub returns-in-Err-ranked : goal.returns-in-Err-ranked
-returns-in-Err-ranked c =
-    let a = c.args in
-    sym (ranks_stop a.order a.build (sym c.judge_places-placed.ensures ∙ c.in_default.is) (sym c.judge_widths-wide.ensures ∙ c.in_default-wide.is) (sym c.judge_ranks-ranked.ensures ∙ c.in-Err-ranked.is))
+pub returns-in_err-judge_ranks : goal.returns-in_err-judge_ranks
+returns-in_err-judge_ranks c =
+    let placed = (done_given _ _ (sym c.judge_places.ensures ∙ c.in_ok-judge_places.was)).1 in
+    let wide = sym c.judge_widths.ensures ∙ c.in_ok-judge_widths.was in
+    handed_on _ c.from_residual-in_err-judge_ranks.ensures.1
+    ∙ sym (given_refused _ _ (ranks_stop c.args.order.now c.args.build.now placed wide (sym c.judge_ranks.ensures ∙ c.in_err-judge_ranks.was)))
 
 pub judge_tests-requires : goal.judge_tests-requires
 judge_tests-requires c =
-    (c.requires.0, c.line_up-keys.ensures, ranks_passed c.args.order c.args.build (done_pass 0 (rank_rules c.args.order c.args.build) (sym c.judge_ranks-ranked.ensures ∙ c.in_default-ranked.is)))
+    let o = c.args.order.now in
+    let b = c.args.build.now in
+    (c.requires.limits, c.line_up-keys.ensures, ranks_passed o b (done_pass 0 (rank_rules o b) (sym c.judge_ranks.ensures ∙ c.in_ok-judge_ranks.was)))
+
+pub returns-in_err-judge_tests : goal.returns-in_err-judge_tests
+returns-in_err-judge_tests c =
+    let placed = (done_given _ _ (sym c.judge_places.ensures ∙ c.in_ok-judge_places.was)).1 in
+    let wide = sym c.judge_widths.ensures ∙ c.in_ok-judge_widths.was in
+    let ranked = sym c.judge_ranks.ensures ∙ c.in_ok-judge_ranks.was in
+    handed_on _ c.from_residual-in_err-judge_tests.ensures.1
+    ∙ sym (given_refused _ _ (tests_last c.args.order.now c.args.build.now placed wide ranked ∙ sym c.judge_tests.ensures ∙ c.in_err-judge_tests.was))
 
 pub returns : goal.returns
 returns c =
-    let a = c.args in
-    c.judge_tests.ensures
-    ∙ sym (tests_last a.order a.build (sym c.judge_places-placed.ensures ∙ c.in_default.is) (sym c.judge_widths-wide.ensures ∙ c.in_default-wide.is) (sym c.judge_ranks-ranked.ensures ∙ c.in_default-ranked.is))
+    let placed = (done_given _ _ (sym c.judge_places.ensures ∙ c.in_ok-judge_places.was)).1 in
+    let wide = sym c.judge_widths.ensures ∙ c.in_ok-judge_widths.was in
+    let ranked = sym c.judge_ranks.ensures ∙ c.in_ok-judge_ranks.was in
+    sym (given_done _ _ (tests_last c.args.order.now c.args.build.now placed wide ranked ∙ sym c.judge_tests.ensures ∙ c.in_ok-judge_tests.was))
