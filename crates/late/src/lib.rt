@@ -3,49 +3,17 @@
 
 ghost use Rattle.std.specs.Prelude.{◌≡◌};
 ghost use Rattle.late_find.specs.Found.{NamedLate};
-ghost use Rattle.late.specs.Shown.{late_in_build, late_in_refusal, late_task, ShowsScript, ShowsLate};
+ghost use Rattle.late.specs.Shown.{late_task, ShowsScript, ShowsLate};
 
 use model::{Build, BuildCause, CallCause, LateCause, Order, Refusal, Release};
 
-// The task that an answer names late, if it is 29: by what is wrong with the build, by the cause, by the answer.
-fn late_in_build(cause: BuildCause) -> Option<u64>
-    ensures { result ≡ late_in_build cause }
-{
-    match cause {
-        BuildCause::BuildShort => None,
-        BuildCause::BuildMismatch => None,
-        BuildCause::BuildLength => None,
-        BuildCause::BuildSpare => None,
-        BuildCause::PartitionPlace(_) => None,
-        BuildCause::TaskPartition(_) => None,
-        BuildCause::Rank(_) => None,
-        BuildCause::Window(_) => None,
-        BuildCause::Start(_) => None,
-        BuildCause::Late(task) => Some(task as u64),
-        BuildCause::Response(_) => None,
-    }
-}
-
-fn late_in_refusal(cause: Refusal) -> Option<u64>
-    ensures { result ≡ late_in_refusal cause }
-{
-    match cause {
-        Refusal::OfOrder(_) => None,
-        Refusal::OfCall(_) => None,
-        Refusal::OfBuild(wrong) => late_in_build(wrong),
-        Refusal::OfScript(_) => None,
-        Refusal::OfText(_) => None,
-        Refusal::OfList(_) => None,
-        Refusal::OfLate(_) => None,
-    }
-}
-
-fn late_task(answer: Result<u32, Refusal>) -> Option<u64>
+// The task that an answer names late, if it is 29.
+fn late_task(answer: Result<u32, Refusal>) -> Option<usize>
     ensures { result ≡ late_task answer }
 {
     match answer {
-        Ok(_) => None,
-        Err(cause) => late_in_refusal(cause),
+        Err(Refusal::OfBuild(BuildCause::Late(task))) => Some(usize::from(task)),
+        _ => None,
     }
 }
 
@@ -71,20 +39,10 @@ fn show_script(order: Order, build: Build, task: usize, out: &mut [u8]) -> Resul
 pub fn late(order: &[u8], build: &[u8], out: &mut [u8]) -> Result<u32, Refusal>
     ensures { ShowsLate order.now build.now out.old result out.new }
 {
-    let reading = order::read_order(order);
-    let read = reading.answer;
-    if let Err(cause) = read {
-        return Err(cause);
-    }
+    let read = order::read(order)?;
     let checked = inspect::check(order, build);
-    let named = late_task(checked);
-    match named {
-        None => Err(Refusal::OfLate(LateCause::NotLate)),
-        Some(task) => {
-            let ordered = reading.order;
-            let header = build::read_build_header(build);
-            let taken = build::take_build(build, header);
-            show_script(ordered, taken.build, task as usize, out)
-        }
-    }
+    let task = late_task(checked).ok_or(Refusal::OfLate(LateCause::NotLate))?;
+    let header = build::read_build_header(build);
+    let taken = build::take_build(build, header);
+    show_script(read, taken.build, task, out)
 }

@@ -1,5 +1,5 @@
 -- The answer part by part: the check's refusals, then 12; and what an accepted build has.
-use Rattle.std.specs.Prelude.{Ok, Err}
+use Rattle.std.specs.Prelude.{Ok, Err, Result}
 use Prim.Native.Nat.{ℕ, ◌+◌, ◌-◌, ◌≤◌, ◌<◌}
 use mathlib.Core.Path.{◌≡◌, refl, sym, ap, ◌∙◌}
 use mathlib.Core.List.{List, ◌++◌}
@@ -18,10 +18,10 @@ use Rattle.model.specs.Rules.{first_broken, room_rules}
 use Rattle.model.proofs.Output.{after_done, after_refused}
 use Rattle.model.proofs.Rules.{pass_on, stop, any_count, room_stop, room_on}
 use Rattle.build.specs.Build.{build_at}
-use Rattle.inspect.specs.declared.Checked.{Checked}
+use Rattle.inspect.specs.declared.Accepted.{Accepted}
 use Rattle.inspect.specs.Rules.{check_rules, check_answer, ChecksBoth}
 use Rattle.inspect.specs.Claims.{AcceptedBuild}
-use Rattle.inspect.proofs.Answers.{answer_of}
+use Rattle.inspect.proofs.Answers.{says_no, says_yes}
 use Rattle.inspect.proofs.Handed.{check_passes, handed_build}
 use Rattle.partition_sets.specs.Given.{build_sets, PartitionsFit, sets_rules, sets_answer, GivesSets}
 
@@ -51,32 +51,32 @@ module _ (order build : List ℕ) (places : ℕ) where
   unfolding sets_answer sets_rules
   room_next count e = pass_on _ (check_rules order build) (room_rules (build_at build).partitions places) (check_passes order build e)
 
-module _ (order build output : List ℕ) (checked : Checked) (so : ChecksBoth order build checked) where
-  pub given_not : (cause : Refusal) → checked.answer ≡ Err cause → GivesSets order build output (Err cause) output
-  given_not cause e =
+module _ (order build output : List ℕ) {checked : Result Accepted Refusal} (so : ChecksBoth order build checked) where
+  pub given_not : {refusal : Refusal} → checked ≡ Err refusal → GivesSets order build output (Err refusal) output
+  given_not {refusal} e =
       record {
-        answered = sym (check_stops order build (length output) cause (sym (answer_of order build checked so) ∙ e));
-        written = sym (after_refused cause (build_sets (build_at build)) output);
+        answered = sym (check_stops order build (length output) refusal (says_no order build so e));
+        written = sym (after_refused refusal (build_sets (build_at build)) output);
       }
 
-  module _ (count : ℕ) (done : checked.answer ≡ Ok count) where
+  module _ {accepted : Accepted} (done : checked ≡ Ok accepted) where
     next : sets_answer order build (length output) ≡ first_broken (build_at build).partitions (room_rules (build_at build).partitions (length output))
-    next = room_next order build (length output) count (sym (answer_of order build checked so) ∙ done)
+    next = room_next order build (length output) 0 (says_yes order build so done)
 
-    same : checked.build ≡ build_at build
-    same = handed_build order build checked so done
+    same : accepted.build ≡ build_at build
+    same = handed_build order build so done
 
-    pub no_room : length output < checked.build.partitions → GivesSets order build output (Err (OfCall Output)) output
+    pub no_room : length output < accepted.build.partitions → GivesSets order build output (Err (OfCall Output)) output
     no_room less =
         record {
           answered = sym (next ∙ room_stop _ _ _ (omega (arith, less, ap (λ (b : Build). b.partitions) same)));
           written = sym (after_refused (OfCall Output) (build_sets (build_at build)) output);
         }
 
-    pub given : (after : List ℕ) → checked.build.partitions ≤ length output → after ≡ build_sets checked.build ++ drop checked.build.partitions output
-        → GivesSets order build output (Ok checked.build.partitions) after
-    given after room e =
+    pub given : {after : List ℕ} → accepted.build.partitions ≤ length output → after ≡ build_sets accepted.build ++ drop accepted.build.partitions output
+        → GivesSets order build output (Ok accepted.build.partitions) after
+    given room e =
         record {
           answered = sym (next ∙ room_on _ _ _ (omega (arith, room, ap (λ (b : Build). b.partitions) same)) ∙ ap (λ (b : Build). Ok b.partitions) (sym same));
-          written = e ∙ ap (λ (b : Build). build_sets b ++ drop checked.build.partitions output) same ∙ sym (after_done checked.build.partitions (build_sets (build_at build)) output);
+          written = e ∙ ap (λ (b : Build). build_sets b ++ drop accepted.build.partitions output) same ∙ sym (after_done accepted.build.partitions (build_sets (build_at build)) output);
         }

@@ -27,16 +27,11 @@ fn put_sets(build: Build, out: &mut [u64])
 pub fn partition_sets(order: &[u8], build: &[u8], out: &mut [u64]) -> Result<u32, Refusal>
     ensures { GivesSets order.now build.now out.old result out.new }
 {
-    let checked = inspect::check_both(order, build);
-    let answer = checked.answer;
-    if let Err(cause) = answer {
-        return Err(cause);
-    }
-    let accepted = checked.build;
-    let partitions = accepted.partitions;
+    let accepted = inspect::check_both(order, build)?;
+    let partitions = accepted.build.partitions;
     if out.len() < partitions as usize {
         return Err(Refusal::OfCall(CallCause::Output));
     }
-    put_sets(accepted, out);
+    put_sets(accepted.build, out);
     Ok(partitions)
 }

@@ -1,5 +1,5 @@
 -- The run's parts in turn: the check stops it, or the script's rules go on.
-use Rattle.std.specs.Prelude.{Ok, Err}
+use Rattle.std.specs.Prelude.{Ok, Err, Result}
 use Prim.Native.Nat.{ℕ}
 use mathlib.Core.Path.{◌≡◌, sym, ap, ◌∙◌, subst}
 use mathlib.Core.List.{List}
@@ -14,9 +14,9 @@ use Rattle.model.proofs.Output.{after_refused}
 use Rattle.model.proofs.Rules.{done_pass, pass_on, pass_kept, stop, any_count}
 use Rattle.order.specs.Order.{order_at}
 use Rattle.build.specs.Build.{build_at}
-use Rattle.inspect.specs.declared.Checked.{Checked}
+use Rattle.inspect.specs.declared.Accepted.{Accepted}
 use Rattle.inspect.specs.Rules.{check_rules, check_answer, ChecksBoth}
-use Rattle.inspect.proofs.Answers.{answer_of}
+use Rattle.inspect.proofs.Answers.{says_no, says_yes}
 use Rattle.inspect.proofs.Handed.{check_passes, handed_order, handed_build}
 use Rattle.script.specs.Script.{records_in, script_of, script_rules}
 use Rattle.script.specs.Claims.{ScriptAccepted}
@@ -61,13 +61,13 @@ module _ (order build script output : List ℕ) where
       }
 
 -- the same, from the check that hands on what it read
-module _ (order build script output : List ℕ) (checked : Checked) (so : ChecksBoth order build checked) where
-  pub ran_not : {cause : Refusal} → checked.answer ≡ Err cause → Ran order build script output (Err cause) output
-  ran_not e = ran_refused order build script output (sym (answer_of order build checked so) ∙ e)
+module _ (order build script output : List ℕ) {checked : Result Accepted Refusal} (so : ChecksBoth order build checked) where
+  pub ran_not : {refusal : Refusal} → checked ≡ Err refusal → Ran order build script output (Err refusal) output
+  ran_not e = ran_refused order build script output (says_no order build so e)
 
-  pub ran_handed : {count : ℕ} {answer : Answer} {after : List ℕ} → checked.answer ≡ Ok count → RanScript checked.order checked.build script output answer after
+  pub ran_handed : {accepted : Accepted} {answer : Answer} {after : List ℕ} → checked ≡ Ok accepted → RanScript accepted.order accepted.build script output answer after
       → Ran order build script output answer after
-  ran_handed {answer} {after} done ran =
-      ran_on order build script output (sym (answer_of order build checked so) ∙ done)
-      (subst (λ (b : Build). RanScript (order_at order) b script output answer after) (handed_build order build checked so done)
-      (subst (λ (o : Order). RanScript o checked.build script output answer after) (handed_order order build checked so done) ran))
+  ran_handed {accepted} {answer} {after} done ran =
+      ran_on order build script output (says_yes order build so done)
+      (subst (λ (b : Build). RanScript (order_at order) b script output answer after) (handed_build order build so done)
+      (subst (λ (o : Order). RanScript o accepted.build script output answer after) (handed_order order build so done) ran))

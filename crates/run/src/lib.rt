@@ -27,15 +27,11 @@ fn run_checked(order: Order, build: Build, script: &[u8], out: &mut [u32]) -> Re
 pub fn run(order: &[u8], build: &[u8], script: &[u8], out: &mut [u32]) -> Result<u32, Refusal>
     ensures { Ran order.now build.now script.now out.old result out.new }
 {
-    let checked = inspect::check_both(order, build);
-    let answer = checked.answer;
-    if let Err(cause) = answer {
-        return Err(cause);
-    }
+    let accepted = inspect::check_both(order, build)?;
     // Only the front that can be counted is lent on.
     let records = script.len() / Release::BYTES;
     if records < out.len() {
-        return run_checked(checked.order, checked.build, script, &mut out[..records]);
+        return run_checked(accepted.order, accepted.build, script, &mut out[..records]);
     }
-    run_checked(checked.order, checked.build, script, out)
+    run_checked(accepted.order, accepted.build, script, out)
 }

@@ -1,23 +1,30 @@
-use mathlib.Core.Path.{sym, ◌∙◌}
+use Rattle.std.proofs.Common.{◌≡◌, Err, Some, None, sym, ◌∙◌, arith}
+use Rattle.model.specs.declared.answer.Refusal.TheVariants.{OfLate}
+use Rattle.model.specs.declared.answer.LateCause.TheVariants.{NotLate}
+use Rattle.model.proofs.Rules.{handed_on}
 use Rattle.late.proofs.Parts.{shows_order, shows_not_late, takes, names, shows_late}
 use Rattle.late.proofs.late.Goals as goal
 
-pub returns-in-Err : goal.returns-in-Err
-returns-in-Err c =
-    shows_order _ _ c.read_order-reading.result c.read_order-reading.ensures _ c.in-Err.is
+pub returns-in_err-read : goal.returns-in_err-read
+returns-in_err-read c = rw (handed_on _ c.from_residual.ensures.1) (shows_order _ _ c.read.ensures _ c.in_err-read.was)
+
+pub returns-in_err-task : goal.returns-in_err-task
+returns-in_err-task c =
+    let none : c.late_task.result ≡ None = grind arith in
+    let is : c.from_residual-in_err-task.result ≡ Err (OfLate NotLate) = handed_on _ c.from_residual-in_err-task.ensures.1 ∙ sym c.in_err-task.was ∙ grind arith in
+    rw is (shows_not_late _ _ c.read.ensures c.in_ok-read.was c.check-checked.ensures c.args.out.now (sym c.late_task.ensures ∙ none))
 
 pub take_build-taken-requires : goal.take_build-taken-requires
 take_build-taken-requires c =
-    takes _ _ c.read_order-reading.result c.read_order-reading.ensures c.in_default.is c.check-checked.result c.check-checked.ensures _ (sym c.late_task-named.ensures ∙ c.in-Some.is) c.read_build_header-header.result c.read_build_header-header.ensures
+    let some : c.late_task.result ≡ Some c.in_ok-task.task = grind arith in
+    takes _ _ c.read.ensures c.in_ok-read.was c.check-checked.ensures (sym c.late_task.ensures ∙ some) c.read_build_header-header.ensures
 
 pub show_script-requires : goal.show_script-requires
 show_script-requires c =
-    names _ _ c.read_order-reading.result c.read_order-reading.ensures c.in_default.is c.check-checked.result c.check-checked.ensures _ (sym c.late_task-named.ensures ∙ c.in-Some.is) c.take_build-taken.result c.take_build-taken.ensures
+    let some : c.late_task.result ≡ Some c.in_ok-task.task = grind arith in
+    names _ _ c.read.ensures c.in_ok-read.was c.check-checked.ensures (sym c.late_task.ensures ∙ some) c.take_build-taken.ensures
 
-pub returns-in-None : goal.returns-in-None
-returns-in-None c =
-    shows_not_late _ _ c.read_order-reading.result c.read_order-reading.ensures c.in_default.is c.check-checked.result c.check-checked.ensures _ (sym c.late_task-named.ensures ∙ c.in-None.is)
-
-pub returns-in-Some : goal.returns-in-Some
-returns-in-Some c =
-    shows_late _ _ c.read_order-reading.result c.read_order-reading.ensures c.in_default.is c.check-checked.result c.check-checked.ensures _ (sym c.late_task-named.ensures ∙ c.in-Some.is) c.take_build-taken.result c.take_build-taken.ensures _ c.show_script.ensures
+pub returns : goal.returns
+returns c =
+    let some : c.late_task.result ≡ Some c.in_ok-task.task = grind arith in
+    shows_late _ _ c.read.ensures c.in_ok-read.was c.check-checked.ensures (sym c.late_task.ensures ∙ some) c.take_build-taken.ensures _ c.show_script.ensures
