@@ -3,7 +3,7 @@ use Rattle.run.proofs.Script.{ran_none, runnable, ran_all}
 use Rattle.run.proofs.run_checked.Goals as goal
 
 pub judge_script-judged-requires : goal.judge_script-judged-requires
-judge_script-judged-requires c = (c.requires.limits, refl, refl)
+judge_script-judged-requires c = record { limits = c.requires.limits; key_places = refl; duration_places = refl }
 
 pub run_all-requires : goal.run_all-requires
 run_all-requires c =
