@@ -9,16 +9,20 @@ use native.Mathlib.Omega.{arith}
 use lib.Dec.{eqb}
 use lib.ListN.{length, get_or, set, length-set, length-replicate}
 use lib.Seq.{get_or-set_same, get_or-set_other}
-use borrow.Author.Tests.{eq-eqb, eqb-true}
+use borrow.Author.Tests.{eq-eqb, ne_eqb, eqb-true}
 use Rattle.laws.specs.Choice.{pick}
 use Rattle.model.specs.Limits.{most_tasks}
 use Rattle.course.specs.Ahead.{heads_of}
 
 module _ (first homes ranks : List ℕ) (p : ℕ) where
-  pub heads_more : (k : ℕ) → heads_of first homes ranks p (k + 1)
-      ≡ pick (eqb (get_or homes k 0) p) (set (heads_of first homes ranks p k) (get_or ranks k 0) (get_or first k 0)) (heads_of first homes ranks p k)
+  -- a member of the partition puts its first record at its rank, another task changes nothing
+  pub heads_here : (k : ℕ) → get_or homes k 0 ≡ p → heads_of first homes ranks p (k + 1) ≡ set (heads_of first homes ranks p k) (get_or ranks k 0) (get_or first k 0)
   unfolding heads_of
-  heads_more k = rw add-one
+  heads_here k own = rw (add-one, eq-eqb (get_or homes k 0) p own)
+
+  pub heads_elsewhere : (k : ℕ) → (get_or homes k 0 ≡ p → ⊥) → heads_of first homes ranks p (k + 1) ≡ heads_of first homes ranks p k
+  unfolding heads_of
+  heads_elsewhere k other = rw (add-one, ne_eqb (get_or homes k 0) p other)
 
   pub length_heads : (k : ℕ) → length (heads_of first homes ranks p k) ≡ most_tasks
   unfolding heads_of

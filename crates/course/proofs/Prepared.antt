@@ -96,40 +96,32 @@ module _ {o : Order} {b : Build} {records : ℕ} {keys durations : List ℕ} {pl
         within = λ i here. few (record_task so.script i) (so.legal.known i here);
       }
 
-  module _ (numbers homes ranks : List ℕ) (tasks : ℕ) (count : tasks ≡ o.tasks) (is-numbers : numbers ≡ filled (λ k. k) 0 most_tasks most_tasks)
-      (is-homes : homes ≡ filled (λ k. (get_or b.members k zero_member).partition) 0 most_tasks tasks) (is-ranks : ranks ≡ filled (λ k. (get_or b.members k zero_member).rank) 0 most_tasks tasks) where
-    pub few_tasks : tasks ≤ most_tasks
-    few_tasks = omega (arith, so.few)
+  -- a number of each task, in a list
+  abbrev pub OfEach : (list : List ℕ) → (number : ℕ → ℕ) → Type 0
+  OfEach list number = (length list ≡ most_tasks) × ((k : ℕ) → k < most_tasks → get_or list k 0 ≡ number k)
 
-    pub home_at : (k : ℕ) → k < o.tasks → get_or homes k 0 ≡ home_of b k
-    home_at k known = rw is-homes (filled_in (λ k. (get_or b.members k zero_member).partition) 0 most_tasks tasks k (omega arith))
+  abbrev pub by_number : {numbers : List ℕ} → OfEach numbers (λ k. k) → Grouped records keys numbers
+  by_number {numbers} numbered = grouped numbers (λ k. k) numbered.0 (λ k known. numbered.1 k (omega (arith, so.few))) (λ k known. omega (arith, so.few))
 
-    pub home_places : length homes ≡ most_tasks
-    home_places = rw is-homes (length-filled (λ k. (get_or b.members k zero_member).partition) 0 most_tasks tasks few_tasks)
+  abbrev pub by_home_so : {homes : List ℕ} → OfEach homes (home_of b) → Grouped records keys homes
+  by_home_so {homes} housed = grouped homes (home_of b) housed.0 (λ k known. housed.1 k (omega (arith, so.few))) (λ k known. omega (arith, so.homes k known, so.few_partitions))
 
-    abbrev pub by_number : Grouped records keys numbers
-    by_number = grouped numbers (λ k. k) (rw is-numbers (length-filled (λ k. k) 0 most_tasks most_tasks (omega arith)))
-        (λ k known. rw is-numbers (filled_in (λ k. k) 0 most_tasks most_tasks k (omega (arith, so.few)))) (λ k known. omega (arith, so.few))
-
-    abbrev pub by_home_so : Grouped records keys homes
-    by_home_so = grouped homes (home_of b) home_places home_at (λ k known. omega (arith, so.homes k known, so.few_partitions))
-
-    pub prepared : (next after oldest first : List ℕ) → LinedUp (λ k. k) so.script oldest next → LinedUp (home_of b) so.script first after
-        → Prepared o b so.script keys durations homes ranks next after oldest first tasks b.partitions places
-    prepared next after oldest first by_task by_home =
+  pub prepared : {homes ranks next after oldest first : List ℕ} → OfEach homes (home_of b) → OfEach ranks (rank_of b) → LinedUp (λ k. k) so.script oldest next → LinedUp (home_of b) so.script first after
+      → Prepared o b so.script keys durations homes ranks next after oldest first o.tasks b.partitions places
+  prepared housed ordered by_task by_home =
         record {
           lined = record {
             legal_run = legal_run_so;
             laid = record { held = so.held; places = by_task.places; next_at = by_task.next_at };
-            rank_places = rw is-ranks (length-filled (λ k. (get_or b.members k zero_member).rank) 0 most_tasks tasks few_tasks);
-            rank_at = λ k known. rw is-ranks (filled_in (λ k. (get_or b.members k zero_member).rank) 0 most_tasks tasks k (omega arith));
+            rank_places = ordered.0;
+            rank_at = λ k known. ordered.1 k (omega (arith, so.few));
             after_places = by_home.places;
             after_at = by_home.next_at;
           };
           short = so.short;
-          count = count;
-          home_places = home_places;
-          home_at = home_at;
+          count = refl;
+          home_places = housed.0;
+          home_at = λ k known. housed.1 k (omega (arith, so.few));
           by_task = by_task;
           by_home = by_home;
           few_partitions = so.few_partitions;

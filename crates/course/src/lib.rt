@@ -9,8 +9,9 @@ ghost use Rattle.model.specs.Limits.{most_records};
 ghost use Rattle.finish.specs.Finish.{finish_ticks};
 ghost use Rattle.course.specs.Course.{Runnable};
 
-use chains::{homes_of, line_up, numbers, oldest_of, ranks_of};
+use chains::{line_up, oldest_of};
 use model::{Build, Order, Release};
+use std::array;
 use stepper::{Machine, NO_RECORD};
 use turns::run_partition;
 
@@ -40,20 +41,18 @@ pub fn run_all(
     ensures { (so : Runnable order build records keys.now durations.now (length out.old)) → out.new ≡ finish_ticks order build so.script ++ drop records out.old }
 {
     let tasks = order.tasks as usize;
-    let members = build.members;
-    let homes = homes_of(members, tasks);
-    let ranks = ranks_of(members, tasks);
-    let own = numbers();
+    let homes = build.members.map(|member| member.partition);
+    let ranks = build.members.map(|member| member.rank);
+    // Each task is its own group.
+    let own = array::from_fn(|k| k as u32);
     let mut next = [0u16; Release::MOST];
     let mut after = [0u16; Release::MOST];
     let oldest = line_up(keys, records, &own, &mut next);
     let first = line_up(keys, records, &homes, &mut after);
-    let partitions = build.partitions;
-    let mut p: u32 = 0;
-    while p < partitions {
-        let heads = oldest_of(&oldest, &homes, &ranks, tasks, p);
+    for partition in 0..build.partitions {
+        let heads = oldest_of(&oldest, &homes, &ranks, tasks, partition);
         run_partition(
-            begin(heads, first[p as usize]),
+            begin(heads, first[partition as usize]),
             keys,
             durations,
             &ranks,
@@ -61,6 +60,5 @@ pub fn run_all(
             &after,
             out,
         );
-        p += 1;
     }
 }

@@ -1,7 +1,0 @@
-use Rattle.course.proofs.chains.put_head.Goals as goal
-
-pub returns-then-here : goal.returns-then-here
-returns-then-here c = rw c.if-here.true
-
-pub returns-else-here : goal.returns-else-here
-returns-else-here c = rw c.if-here.false
