@@ -1,12 +1,13 @@
 -- A run that is lent the counted front of the output alone is a run of the whole.
 use Rattle.std.specs.Prelude.{Ok, Err}
-use Prim.Native.Nat.{ℕ, ◌≤◌, ◌<◌}
+use Prim.Native.Nat.{ℕ, ◌≤◌, ◌<◌, min}
 use mathlib.Core.Path.{◌≡◌, refl, sym, ap, ◌∙◌}
 use mathlib.Core.List.{List, [], ◌++◌, append-nil}
 use native.Mathlib.Omega.{arith}
 use borrow.Author.Tests.{le-leb}
+use native.Mathlib.Decide.{dec_lt}
 use lib.ListN.{length, take, drop, take-append-drop, drop_of_length-le}
-use lib.Seq.{length-take-le}
+use lib.Seq.{length-take-le, take_all}
 use Rattle.model.specs.declared.order.Order.{Order}
 use Rattle.model.specs.declared.build.Build.{Build}
 use Rattle.model.specs.Kinds.{Answer}
@@ -24,7 +25,7 @@ enough : (o : Order) (script : List ℕ) (one other count : ℕ) → records_in 
 unfolding first_broken script_rules
 enough o script one other count a b = rw (le-leb (records_in script) one a, le-leb (records_in script) other b) refl
 
-module _ (o : Order) (b : Build) (script output : List ℕ) (k : ℕ) (is : k ≡ records_in script) (more : k < length output) where
+module _ (o : Order) (b : Build) (script output : List ℕ) (k : ℕ) (is : k ≡ records_in script) (within : k ≤ length output) where
   abbrev ticks : List ℕ
   ticks = finish_ticks o b (script_of script)
 
@@ -49,3 +50,16 @@ module _ (o : Order) (b : Build) (script output : List ℕ) (k : ℕ) (is : k �
         script_answer = ran.script_answer ∙ enough o script (length (take k output)) (length output) (records_in script) (omega (arith, front_length, is)) (omega (arith, is));
         script_output = joins answer front ran.script_answer ran.script_output;
       }
+
+-- the same where the whole output is lent
+pub ran_lent : (o : Order) (b : Build) (script output : List ℕ) (answer : Answer) (front : List ℕ) (k : ℕ) → k ≡ min (length output) (records_in script)
+    → RanScript o b script (take k output) answer front → RanScript o b script output answer (front ++ drop k output)
+ran_lent o b script output answer front k is ran = go (dec_lt (length output) (records_in script))
+  where
+    go : Dec (length output < records_in script) → RanScript o b script output answer (front ++ drop k output)
+    go (no n) = ran_front o b script output k (omega arith) (omega arith) answer front ran
+    go (yes l) =
+        let all : length output ≤ k = omega arith in
+        let whole : take k output ≡ output = take_all k output all in
+        let none : drop k output ≡ [] = drop_of_length-le output {i = k} all in
+        rw (none, append-nil front) (rw whole at ran)

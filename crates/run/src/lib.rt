@@ -13,14 +13,9 @@ fn run_checked(order: Order, build: Build, script: &[u8], out: &mut [u32]) -> Re
 {
     let mut keys = [0u32; Release::MOST];
     let mut durations = [0u32; Release::MOST];
-    let judged = script::judge_script(order, script, out.len(), &mut keys, &mut durations);
-    match judged {
-        Err(cause) => Err(cause),
-        Ok(count) => {
-            course::run_all(order, build, count as usize, &keys, &durations, out);
-            Ok(count)
-        }
-    }
+    let count = script::judge_script(order, script, out.len(), &mut keys, &mut durations)?;
+    course::run_all(order, build, count as usize, &keys, &durations, out);
+    Ok(count)
 }
 
 // Runs a release script through a build: the finish tick of each record, or the first refusal.
@@ -29,9 +24,6 @@ pub fn run(order: &[u8], build: &[u8], script: &[u8], out: &mut [u32]) -> Result
 {
     let accepted = inspect::check_both(order, build)?;
     // Only the front that can be counted is lent on.
-    let records = script.len() / Release::BYTES;
-    if records < out.len() {
-        return run_checked(accepted.order, accepted.build, script, &mut out[..records]);
-    }
-    run_checked(accepted.order, accepted.build, script, out)
+    let places = out.len().min(script.len() / Release::BYTES);
+    run_checked(accepted.order, accepted.build, script, &mut out[..places])
 }
