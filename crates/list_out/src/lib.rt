@@ -3,7 +3,8 @@
 
 ghost use Rattle.std.specs.Prelude.{◌≡◌, ◌++◌, ◌^◌, ◌≤◌, ◌<◌, length, drop};
 ghost use Rattle.model.specs.Limits.{most_processors};
-ghost use Rattle.put.specs.Put.{HasRoom, PutsAt};
+ghost use Rattle.put.specs.Put.{HasRoom};
+ghost use Rattle.put.specs.Output.{HasRoomFor, Puts};
 ghost use Rattle.list_form.specs.Items.{most_listed};
 ghost use Rattle.list_form.specs.Runs.{begins_run, run_end};
 ghost use Rattle.list_form.specs.ListText.{item_text, list_text};
@@ -11,14 +12,14 @@ ghost use Rattle.list_out.specs.Parts.{comma_at, run_text};
 ghost use Rattle.list_out.specs.Write.{WritesList};
 
 use model::{CallCause, Order, Refusal};
-use put::{digits_in, put_byte, put_numeral};
+use put::{Output, digits_in};
 use sets::has;
 
 // A processor that is above all of a set: none is looked for from it on.
 fn above_all(set: u64) -> u32
     ensures { (result ≤ most_processors) × (set < 2 ^ result) }
 {
-    Order::MOST_PROCESSORS - u64::leading_zeros(set)
+    Order::MOST_PROCESSORS - set.leading_zeros()
 }
 
 // Whether a run of a set begins at a processor.
@@ -26,13 +27,7 @@ fn begins_run(set: u64, processor: u32) -> bool
     requires { processor < most_processors }
     ensures { result ≡ begins_run set processor }
 {
-    if !has(set, processor) {
-        return false;
-    }
-    if processor == 0 {
-        return true;
-    }
-    !has(set, processor - 1)
+    has(set, processor) && (processor == 0 || !has(set, processor - 1))
 }
 
 // The last processor of the run that one is in: the ones above it, up to the first zero.
@@ -40,12 +35,13 @@ fn run_end(set: u64, first: u32) -> u32
     requires { first < most_processors }
     ensures { result ≡ run_end set first most_listed }
 {
-    first + u64::trailing_zeros(!((set >> first) / 2))
+    first + (!((set >> first) / 2)).trailing_zeros()
 }
 
 // How many bytes an item is.
 fn item_bytes(first: u32, last: u32) -> usize
-    ensures { (result ≡ length (item_text (record { first = first; last = last }))) × (result ≤ 21) }
+    ensures counted { result ≡ length (item_text (record { first = first; last = last })) }
+    ensures few { result ≤ 21 }
 {
     let size = digits_in(first);
     if first != last {
@@ -56,18 +52,17 @@ fn item_bytes(first: u32, last: u32) -> usize
 
 // One for the comma before an item, none at the front.
 fn comma_bytes(at: usize) -> usize
-    ensures { (result ≡ length (comma_at at)) × (result ≤ 1) }
+    ensures counted { result ≡ length (comma_at at) }
+    ensures few { result ≤ 1 }
 {
-    if 0 < at {
-        return 1;
-    }
-    0
+    usize::from(0 < at)
 }
 
 // How many bytes the run that begins at a processor is, none where none does.
 fn run_bytes(at: usize, set: u64, processor: u32) -> usize
     requires { processor < most_processors }
-    ensures { (result ≡ length (run_text at set processor)) × (result ≤ 22) }
+    ensures counted { result ≡ length (run_text at set processor) }
+    ensures few { result ≤ 22 }
 {
     if !begins_run(set, processor) {
         return 0;
@@ -78,53 +73,55 @@ fn run_bytes(at: usize, set: u64, processor: u32) -> usize
 
 // How many bytes the list of a set is.
 fn list_bytes(set: u64) -> usize
-    ensures { (result ≡ length (list_text set)) × (result ≤ 1_408) }
+    ensures counted { result ≡ length (list_text set) }
+    ensures few { result ≤ 1_408 }
 {
-    let end = above_all(set);
     let mut bytes: usize = 0;
-    let mut processor: u32 = 0;
-    while processor < end {
+    for processor in 0..above_all(set) {
         bytes += run_bytes(bytes, set, processor);
-        processor += 1;
     }
     bytes
 }
 
 // A comma, but at the front.
-fn put_comma(out: &mut [u8], at: usize) -> usize
-    requires { HasRoom at (comma_at at) out.old }
-    ensures { PutsAt at (comma_at at) out.old result out.new }
+fn put_comma(out: &mut Output)
+    requires { HasRoomFor (comma_at out.old.at) out.old }
+    ensures same_reference { out.new.bytes.ghost_name ≡ out.old.bytes.ghost_name }
+    ensures put { Puts (comma_at out.old.at) out.old out.new }
 {
-    if at == 0 {
-        return at;
+    if out.at == 0 {
+        return;
     }
-    put_byte(out, at, b',')
+    out.put_byte(b',');
 }
 
 // A number alone, or a range.
-fn put_item(out: &mut [u8], at: usize, first: u32, last: u32) -> usize
-    requires { HasRoom at (item_text (record { first = first; last = last })) out.old }
-    ensures { PutsAt at (item_text (record { first = first; last = last })) out.old result out.new }
+fn put_item(out: &mut Output, first: u32, last: u32)
+    requires { HasRoomFor (item_text (record { first = first; last = last })) out.old }
+    ensures same_reference { out.new.bytes.ghost_name ≡ out.old.bytes.ghost_name }
+    ensures put { Puts (item_text (record { first = first; last = last })) out.old out.new }
 {
-    let next = put_numeral(out, at, first);
+    out.put_numeral(first);
     if first == last {
-        return next;
+        return;
     }
-    let second = put_byte(out, next, b'-');
-    put_numeral(out, second, last)
+    out.put_byte(b'-');
+    out.put_numeral(last);
 }
 
 // The run that begins at a processor, nothing where none does.
-fn put_run(out: &mut [u8], at: usize, set: u64, processor: u32) -> usize
-    requires { (processor < most_processors) × HasRoom at (run_text at set processor) out.old }
-    ensures { PutsAt at (run_text at set processor) out.old result out.new }
+fn put_run(out: &mut Output, set: u64, processor: u32)
+    requires below { processor < most_processors }
+    requires room { HasRoomFor (run_text out.old.at set processor) out.old }
+    ensures same_reference { out.new.bytes.ghost_name ≡ out.old.bytes.ghost_name }
+    ensures put { Puts (run_text out.old.at set processor) out.old out.new }
 {
     if !begins_run(set, processor) {
-        return at;
+        return;
     }
     let last = run_end(set, processor);
-    let first = put_comma(out, at);
-    put_item(out, first, processor, last)
+    put_comma(out);
+    put_item(out, processor, last);
 }
 
 // The runs of a set, from the front of out.
@@ -132,13 +129,9 @@ fn put_list(out: &mut [u8], set: u64)
     requires { HasRoom 0 (list_text set) out.old }
     ensures { out.new ≡ list_text set ++ drop (length (list_text set)) out.old }
 {
-    let end = above_all(set);
-    let mut at: usize = 0;
-    let mut processor: u32 = 0;
-    while processor < end {
-        let next = put_run(out, at, set, processor);
-        at = next;
-        processor += 1;
+    let mut output = Output::new(out);
+    for processor in 0..above_all(set) {
+        put_run(&mut output, set, processor);
     }
 }
 

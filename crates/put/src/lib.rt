@@ -1,9 +1,9 @@
-// Bytes put into the caller's output from a place on: one, digits, and a number in digits.
+// The caller's output, and bytes put into it: one, digits, and a number in digits.
 #![tactic(auto)]
 
-ghost use Rattle.std.specs.Prelude.{◌≡◌, [], ◌∷◌, ◌+◌, ◌≤◌, length};
+ghost use Rattle.std.specs.Prelude.{◌≡◌, [], ◌∷◌, ◌≤◌};
 ghost use Rattle.form.specs.Written.{last_digits, digits_in, numeral};
-ghost use Rattle.put.specs.Put.{HasRoom, PutsAt};
+ghost use Rattle.put.specs.Output.{HasRoomFor, Puts};
 
 // How many digits a number has.
 pub fn digits_in(number: u32) -> usize
@@ -12,40 +12,59 @@ pub fn digits_in(number: u32) -> usize
     let mut digits: usize = 1;
     let mut left = number;
     while left >= 10 {
-        left = left / 10;
+        left /= 10;
         digits += 1;
     }
     digits
 }
 
-// One byte, and where the next goes.
-pub fn put_byte(out: &mut [u8], at: usize, byte: u8) -> usize
-    requires { at + 1 ≤ length out.old }
-    ensures { PutsAt at (byte ∷ []) out.old result out.new }
-{
-    out[at] = byte;
-    at + 1
+// The caller's output, and how much of it is written: what is put next goes behind that.
+#[derive(Drop)]
+pub struct Output<'a> {
+    pub bytes: &'a mut [u8],
+    pub at: usize,
 }
 
-// The last digits of a number, from the last to the first.
-pub fn put_digits(out: &mut [u8], at: usize, digits: usize, number: u32) -> usize
-    requires { at + digits ≤ length out.old }
-    ensures { PutsAt at (last_digits digits number) out.old result out.new }
-{
-    let mut left = number;
-    let mut i = digits;
-    while 0 < i {
-        i -= 1;
-        out[at + i] = b'0' + (left % 10) as u8;
-        left = left / 10;
+impl<'a> Output<'a> {
+    // Nothing is written.
+    pub fn new(bytes: &'a mut [u8]) -> Output<'a>
+        ensures same_reference { result.bytes.ghost_name ≡ bytes.entry.ghost_name }
+        ensures same_bytes { result.bytes.now ≡ bytes.old }
+        ensures front { result.at ≡ 0 }
+    {
+        Output { bytes, at: 0 }
     }
-    at + digits
-}
 
-// A number in digits, none more than it has.
-pub fn put_numeral(out: &mut [u8], at: usize, number: u32) -> usize
-    requires { HasRoom at (numeral number) out.old }
-    ensures { PutsAt at (numeral number) out.old result out.new }
-{
-    put_digits(out, at, digits_in(number), number)
+    pub fn put_byte(&mut self, byte: u8)
+        requires { HasRoomFor (byte ∷ []) self.old }
+        ensures same_reference { self.new.bytes.ghost_name ≡ self.old.bytes.ghost_name }
+        ensures put { Puts (byte ∷ []) self.old self.new }
+    {
+        self.bytes[self.at] = byte;
+        self.at += 1;
+    }
+
+    // The last digits of a number, so many.
+    pub fn put_digits(&mut self, digits: usize, number: u32)
+        requires { HasRoomFor (last_digits digits number) self.old }
+        ensures same_reference { self.new.bytes.ghost_name ≡ self.old.bytes.ghost_name }
+        ensures put { Puts (last_digits digits number) self.old self.new }
+    {
+        let end = self.at + digits;
+        let mut left = number;
+        for place in (self.at..end).rev() {
+            self.bytes[place] = b'0' + (left % 10) as u8;
+            left /= 10;
+        }
+        self.at = end;
+    }
+
+    // A number in digits, none more than it has.
+    pub fn put_numeral(&mut self, number: u32)
+        requires { HasRoomFor (numeral number) self.old }
+        ensures same_reference { self.new.bytes.ghost_name ≡ self.old.bytes.ghost_name }
+        ensures put { Puts (numeral number) self.old self.new }
+    {
+        self.put_digits(digits_in(number), number);
+    }
 }

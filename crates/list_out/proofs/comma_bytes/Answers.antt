@@ -1,14 +1,16 @@
-use borrow.Author.Rules.{rules}
-use mathlib.Core.Path.{◌≡◌, sym, ap}
-use native.Mathlib.Omega.{arith}
+use mathlib.Core.Path.{◌≡◌, refl, ◌∙◌}
+use mathlib.Core.Bool.{Bool, true, false}
+use mathlib.Core.List.{[], ◌∷◌}
+use mir.Val.{bool_byte}
 use lib.ListN.{length}
-use Rattle.list_out.proofs.Parts.{comma_none, comma_one}
+use Rattle.laws.specs.Choice.{pick}
+use Rattle.form.specs.Bytes.{comma}
 use Rattle.list_out.proofs.comma_bytes.Goals as goal
 
-pub returns-then-at-gt0 : goal.returns-then-at-gt0
-returns-then-at-gt0 c =
-    let at = c.args.at in
-    (sym (ap length (comma_one at (λ (front : at ≡ 0). omega (arith, c.if-at-gt0.true, front)))), search rules)
+-- a test as the number that it is taken as
+one_or_none : (test : Bool) → bool_byte test ≡ length (pick test (comma ∷ []) [])
+one_or_none true = refl
+one_or_none false = refl
 
-pub returns : goal.returns
-returns c = (sym (ap length (comma_none c.args.at (omega (arith, c.if-at-gt0.false)))), search rules)
+pub returns-clause-counted : goal.returns-clause-counted
+returns-clause-counted c = c.from.ensures ∙ one_or_none _

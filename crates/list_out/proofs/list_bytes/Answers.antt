@@ -7,13 +7,13 @@ use Rattle.list_out.proofs.Parts.{rest_all, rest_none, rest_longer}
 use Rattle.list_out.proofs.list_bytes.Goals as goal
 
 pub loop-processor-init : goal.loop-processor-init
-loop-processor-init c = (search rules, search rules, omega (arith, ap length (rest_all c.args.set)))
+loop-processor-init c = (search rules, omega (arith, ap length (rest_all c.args.set)))
 
 pub loop-processor-preserved : goal.loop-processor-preserved
 loop-processor-preserved c =
-    (search rules, search rules, sym (rest_longer _ _ _ _ (lt_of_lt_of_le c.loop-processor-test.true c.above_all-end.ensures.0) c.run_bytes-bytes.ensures.0) ∙ c.loop-processor.invariant.2)
+    (omega (arith, c.loop-processor.invariant.0, c.run_bytes-bytes.ensures.few), sym (rest_longer _ _ _ _ (lt_of_lt_of_le c.loop-processor-test.true c.above_all-processor-end.ensures.0) c.run_bytes-bytes.ensures.counted) ∙ c.loop-processor.invariant.1)
 
-pub returns : goal.returns
-returns c =
-    let none = ap length (rest_none c.loop-processor.bytes c.args.set c.loop-processor.processor _ c.above_all-end.ensures.1 c.loop-processor-test.false) in
-    (omega (arith, c.loop-processor.invariant.2, none), search rules)
+pub returns-clause-counted : goal.returns-clause-counted
+returns-clause-counted c =
+    let none = ap length (rest_none c.loop-processor.bytes c.args.set c.loop-processor.processor _ c.above_all-processor-end.ensures.1 c.loop-processor-test.false) in
+    omega (arith, c.loop-processor.invariant.1, none)

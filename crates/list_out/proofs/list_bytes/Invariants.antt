@@ -1,12 +1,9 @@
 use mathlib.Core.Path.{◌≡◌}
-use Prim.Native.Nat.{◌+◌, ◌-◌, ◌*◌, ◌≤◌}
+use Prim.Native.Nat.{◌+◌, ◌*◌, ◌≤◌}
 use lib.ListN.{length}
 use Rattle.list_form.specs.ListText.{list_text}
 use Rattle.list_out.proofs.Parts.{rest_text}
 use Rattle.list_out.proofs.list_bytes.Given as goal
 
 abbrev pub invariant-loop-processor : goal.invariant-loop-processor
-invariant-loop-processor l = (l.processor ≤ l.end) × (l.bytes ≤ 22 * l.processor) × (l.bytes + length (rest_text l.bytes l.set l.processor) ≡ length (list_text l.set))
-
-abbrev pub decreases-loop-processor : goal.decreases-loop-processor
-decreases-loop-processor l = l.end - l.processor
+invariant-loop-processor l = (l.bytes ≤ 22 * l.processor) × (l.bytes + length (rest_text l.bytes l.set l.processor) ≡ length (list_text l.set))

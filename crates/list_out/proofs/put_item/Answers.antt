@@ -10,11 +10,11 @@ use Rattle.list_form.specs.ListText.{item_text}
 use Rattle.list_out.proofs.Parts.{single_text, range_text, first_room}
 use Rattle.list_out.proofs.put_item.Goals as goal
 
-pub put_numeral-next-requires : goal.put_numeral-next-requires
-put_numeral-next-requires c = first_room _ _ _ _ c.requires
+pub put_numeral-requires : goal.put_numeral-requires
+put_numeral-requires c = first_room _ _ _ _ c.requires
 
-pub returns-then-first-last : goal.returns-then-first-last
-returns-then-first-last c = rw (single_text _ _ (eq-eqb _ _ c.if-first-last.true)) c.put_numeral-next.ensures
+pub returns-then-first-last-clause-put : goal.returns-then-first-last-clause-put
+returns-then-first-last-clause-put c = rw (single_text _ _ (eq-eqb _ _ c.if-first-last.true)) c.put_numeral.ensures.put
 
 -- what is put of a range behind its first number
 abbrev from_dash : ℕ → List ℕ
@@ -28,16 +28,22 @@ module _ (at first last : ℕ) (output : List ℕ) (room : HasRoom at (item_text
   dash-room : {next : ℕ} {middle : List ℕ} → PutsAt at (numeral first) output next middle → HasRoom next (from_dash last) middle
   dash-room put = room_next _ range-room put
 
-pub put_byte-second-requires : goal.put_byte-second-requires
-put_byte-second-requires c =
-    let a = c.args in (room_first {a = dash ∷ []} _ (dash-room a.at a.first a.last a.out.now c.requires c.if-first-last.false c.put_numeral-next.ensures)).fits
-
-pub put_numeral-requires : goal.put_numeral-requires
-put_numeral-requires c =
-    let a = c.args in room_next _ (dash-room a.at a.first a.last a.out.now c.requires c.if-first-last.false c.put_numeral-next.ensures) c.put_byte-second.ensures
-
-pub returns : goal.returns
-returns c =
+pub put_byte-requires : goal.put_byte-requires
+put_byte-requires c =
     let a = c.args in
+    let o = a.out.now in
+    room_first {a = dash ∷ []} _ (dash-room o.at a.first a.last o.bytes.now c.requires c.if-first-last.false c.put_numeral.ensures.put)
+
+pub put_numeral-requires-2 : goal.put_numeral-requires-2
+put_numeral-requires-2 c =
+    let a = c.args in
+    let o = a.out.now in
+    room_next _ (dash-room o.at a.first a.last o.bytes.now c.requires c.if-first-last.false c.put_numeral.ensures.put) c.put_byte.ensures.put
+
+pub returns-clause-put : goal.returns-clause-put
+returns-clause-put c =
+    let a = c.args in
+    let o = a.out.now in
     rw (range_text _ _ (ne_eqb _ _ c.if-first-last.false))
-    (puts_two _ (range-room a.at a.first a.last a.out.now c.requires c.if-first-last.false) c.put_numeral-next.ensures (puts_two _ (dash-room a.at a.first a.last a.out.now c.requires c.if-first-last.false c.put_numeral-next.ensures) c.put_byte-second.ensures c.put_numeral.ensures))
+    (puts_two _ (range-room o.at a.first a.last o.bytes.now c.requires c.if-first-last.false) c.put_numeral.ensures.put
+    (puts_two _ (dash-room o.at a.first a.last o.bytes.now c.requires c.if-first-last.false c.put_numeral.ensures.put) c.put_byte.ensures.put c.put_numeral-2.ensures.put))

@@ -1,4 +1,3 @@
-use borrow.Author.Rules.{rules}
 use mathlib.Core.Path.{sym, ap, ◌∙◌}
 use Prim.Native.Nat.{ℕ}
 use native.Mathlib.Omega.{arith}
@@ -8,15 +7,15 @@ use Rattle.list_out.specs.Parts.{comma_at}
 use Rattle.list_out.proofs.Parts.{no_run, one_run, run_at}
 use Rattle.list_out.proofs.run_bytes.Goals as goal
 
-pub returns-then-not-begins_run : goal.returns-then-not-begins_run
-returns-then-not-begins_run c =
+pub returns-then-not-begins_run-clause-counted : goal.returns-then-not-begins_run-clause-counted
+returns-then-not-begins_run-clause-counted c =
     let a = c.args in
-    (sym (ap length (no_run a.at a.set a.processor (sym c.begins_run.ensures ∙ c.if-not-begins_run.true))), search rules)
+    sym (ap length (no_run a.at a.set a.processor (sym c.begins_run.ensures ∙ c.if-not-begins_run.true)))
 
-pub returns : goal.returns
-returns c =
+pub returns-clause-counted : goal.returns-clause-counted
+returns-clause-counted c =
     let a = c.args in
     let begins = sym c.begins_run.ensures ∙ c.if-not-begins_run.false in
-    let item = c.item_bytes.ensures.0 ∙ ap (λ (last : ℕ). length (item_text (record { first = a.processor; last = last }))) c.run_end-last.ensures in
+    let item = c.item_bytes.ensures.counted ∙ ap (λ (last : ℕ). length (item_text (record { first = a.processor; last = last }))) c.run_end-last.ensures in
     let text = ap length (one_run a.at a.set a.processor begins) ∙ length-append (comma_at a.at) (item_text (run_at a.set a.processor)) in
-    (omega (arith, c.comma_bytes.ensures.0, item, text), search rules)
+    omega (arith, c.comma_bytes.ensures.counted, item, text)

@@ -13,17 +13,17 @@ pub returns-then-out-size : goal.returns-then-out-size
 returns-then-out-size c =
     let a = c.args in
     record {
-      answered = sym (list_short a.set (length a.out.now) (rw c.list_bytes-size.ensures.0 at c.if-out-size.true));
+      answered = sym (list_short a.set (length a.out.now) (rw c.list_bytes-size.ensures.counted at c.if-out-size.true));
       written = sym (after_refused _ _ a.out.now);
     }
 
 pub put_list-requires : goal.put_list-requires
-put_list-requires c = record { fits = omega (arith, c.list_bytes-size.ensures.0, c.if-out-size.false) }
+put_list-requires c = record { fits = omega (arith, c.list_bytes-size.ensures.counted, c.if-out-size.false) }
 
 pub returns : goal.returns
 returns c =
     let a = c.args in
-    let size = c.list_bytes-size.ensures.0 in
+    let size = c.list_bytes-size.ensures.counted in
     let text = list_text a.set in
     record {
       answered = ap Ok size ∙ sym (list_done a.set (length a.out.now) (rw size at c.if-out-size.false));

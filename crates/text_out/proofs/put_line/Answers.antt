@@ -41,31 +41,31 @@ module _ (at : ℕ) (t : Task) (output : List ℕ) (room : HasRoom at (line_text
         end-room : {e : ℕ} {fourth : List ℕ} → PutsAt r (semicolon ∷ time_text t.run) third e fourth → HasRoom e from_end fourth
         end-room run_put = room_next _ run_room run_put
 
-pub put_numeral-period-requires : goal.put_numeral-period-requires
-put_numeral-period-requires c =
-    let a = c.args in room_first _ (line-room a.at a.task a.out.now c.requires)
+pub put_numeral-requires : goal.put_numeral-requires
+put_numeral-requires c =
+    let a = c.args in room_first _ (line-room a.out.now.at a.task a.out.now.bytes.now c.requires)
 
-pub put_time-deadline-requires : goal.put_time-deadline-requires
-put_time-deadline-requires c =
-    let a = c.args in room_first _ (period-room a.at a.task a.out.now c.requires c.put_numeral-period.ensures)
+pub put_time-requires : goal.put_time-requires
+put_time-requires c =
+    let a = c.args in room_first _ (period-room a.out.now.at a.task a.out.now.bytes.now c.requires c.put_numeral.ensures.put)
 
-pub put_time-run-requires : goal.put_time-run-requires
-put_time-run-requires c =
-    let a = c.args in room_first _ (deadline-room a.at a.task a.out.now c.requires c.put_numeral-period.ensures c.put_time-deadline.ensures)
+pub put_time-requires-2 : goal.put_time-requires-2
+put_time-requires-2 c =
+    let a = c.args in room_first _ (deadline-room a.out.now.at a.task a.out.now.bytes.now c.requires c.put_numeral.ensures.put c.put_time.ensures.put)
 
-pub put_time-end-requires : goal.put_time-end-requires
-put_time-end-requires c =
-    let a = c.args in room_first _ (run_room a.at a.task a.out.now c.requires c.put_numeral-period.ensures c.put_time-deadline.ensures c.put_time-run.ensures)
+pub put_time-requires-3 : goal.put_time-requires-3
+put_time-requires-3 c =
+    let a = c.args in room_first _ (run_room a.out.now.at a.task a.out.now.bytes.now c.requires c.put_numeral.ensures.put c.put_time.ensures.put c.put_time-2.ensures.put)
 
 pub put_byte-requires : goal.put_byte-requires
 put_byte-requires c =
-    let a = c.args in (end-room a.at a.task a.out.now c.requires c.put_numeral-period.ensures c.put_time-deadline.ensures c.put_time-run.ensures c.put_time-end.ensures).fits
+    let a = c.args in (end-room a.out.now.at a.task a.out.now.bytes.now c.requires c.put_numeral.ensures.put c.put_time.ensures.put c.put_time-2.ensures.put c.put_time-3.ensures.put)
 
-pub returns : goal.returns
+pub returns-clause-put : goal.returns-clause-put
 unfolding line_text
-returns c =
+returns-clause-put c =
     let a = c.args in
-    puts_two _ (line-room a.at a.task a.out.now c.requires) c.put_numeral-period.ensures
-    (puts_two _ (period-room a.at a.task a.out.now c.requires c.put_numeral-period.ensures) c.put_time-deadline.ensures
-    (puts_two _ (deadline-room a.at a.task a.out.now c.requires c.put_numeral-period.ensures c.put_time-deadline.ensures) c.put_time-run.ensures
-    (puts_two _ (run_room a.at a.task a.out.now c.requires c.put_numeral-period.ensures c.put_time-deadline.ensures c.put_time-run.ensures) c.put_time-end.ensures c.put_byte.ensures)))
+    puts_two _ (line-room a.out.now.at a.task a.out.now.bytes.now c.requires) c.put_numeral.ensures.put
+    (puts_two _ (period-room a.out.now.at a.task a.out.now.bytes.now c.requires c.put_numeral.ensures.put) c.put_time.ensures.put
+    (puts_two _ (deadline-room a.out.now.at a.task a.out.now.bytes.now c.requires c.put_numeral.ensures.put c.put_time.ensures.put) c.put_time-2.ensures.put
+    (puts_two _ (run_room a.out.now.at a.task a.out.now.bytes.now c.requires c.put_numeral.ensures.put c.put_time.ensures.put c.put_time-2.ensures.put) c.put_time-3.ensures.put c.put_byte.ensures.put)))

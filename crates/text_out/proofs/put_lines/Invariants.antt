@@ -1,12 +1,10 @@
-use Prim.Native.Nat.{◌-◌, ◌≤◌}
 use mathlib.Core.Path.{◌≡◌}
-use lib.ListN.{length}
+use Prim.Native.Nat.{◌≤◌}
 use Rattle.put.specs.Put.{PutsAt}
 use Rattle.text_out.proofs.Lines.{lines_of}
 use Rattle.text_out.proofs.put_lines.Given as goal
 
 abbrev pub invariant-loop-line : goal.invariant-loop-line
-invariant-loop-line l = (l.line ≤ l.tasks) × (length l.out ≡ length l.initial.out) × PutsAt 0 (lines_of l.table l.line) l.initial.out l.at l.out
-
-abbrev pub decreases-loop-line : goal.decreases-loop-line
-decreases-loop-line l = l.tasks - l.line
+invariant-loop-line l =
+    (l.output.bytes.ghost_name ≡ l.initial.output.bytes.ghost_name) × (l.line ≤ l.order.tasks)
+    × PutsAt 0 (lines_of l.order.table l.line) l.fn.out l.output.at l.output.bytes.now
