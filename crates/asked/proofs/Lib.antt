@@ -1,4 +1,4 @@
-pub mod Rows
+pub mod RowLaws
 pub mod Slopes
 pub mod Dues
 pub mod Said

@@ -20,11 +20,12 @@ use Rattle.asked.specs.declared.Searched.{Searched}
 use Rattle.asked.specs.Rows.{RowsFit, asked_by}
 use Rattle.asked.specs.Steps.{far, due_after}
 use Rattle.asked.specs.Met.{met_by, UnmetBelow, StillFrom}
-use Rattle.asked.proofs.Rows.{asked_grows}
+use Rattle.asked.proofs.RowLaws.{asked_grows}
 use Rattle.asked.proofs.Dues.{due_later, asked_still}
+use Rattle.asked.specs.declared.rows.Rows.{Rows}
 
 -- what is known at tick w
-pub record Seeking (rows : List ℕ) (count base : ℕ) (due : List ℕ) (all next w : ℕ) : Type 0 where
+pub record Seeking (rows : Rows) (count base : ℕ) (due : List ℕ) (all next w : ℕ) : Type 0 where
   pub unmet : UnmetBelow (asked_by rows count) base w
   pub asked : all ≡ asked_by rows count w
   pub next_is : next ≡ least far (due_after rows w) count
@@ -32,7 +33,7 @@ pub record Seeking (rows : List ℕ) (count base : ℕ) (due : List ℕ) (all ne
   pub dues : (r : ℕ) → r < count → get_or due r 0 ≡ due_after rows w r
 
 -- from releases that were written over others
-pub seeking : (rows : List ℕ) (count base : ℕ) (due was : List ℕ) (all next w : ℕ) → count ≤ most_tasks → length was ≡ most_tasks → UnmetBelow (asked_by rows count) base w → all ≡ asked_by rows count w →
+pub seeking : (rows : Rows) (count base : ℕ) (due was : List ℕ) (all next w : ℕ) → count ≤ most_tasks → length was ≡ most_tasks → UnmetBelow (asked_by rows count) base w → all ≡ asked_by rows count w →
     next ≡ least far (due_after rows w) count → due ≡ overlaid (due_after rows w) count was → Seeking rows count base due all next w
 seeking rows count base due was all next w few size unmet asked next_is over =
     record {
@@ -75,7 +76,7 @@ module _ (work : ℕ → ℕ) (base limit : ℕ) where
       let none : pick (leb t limit) (Some t) None ≡ None = rw (lt-leb t limit gt) refl in
       subst Promised (sym e) (found_by t unmet (λ le. absurd (omega arith)), subst (λ (f : Option ℕ). StillFrom work f next) (sym none) tt)
 
-module _ (rows : List ℕ) (count base : ℕ) (fit : RowsFit rows count) (due : List ℕ) (all next w : ℕ) (at : Seeking rows count base due all next w) where
+module _ (rows : Rows) (count base : ℕ) (fit : RowsFit rows count) (due : List ℕ) (all next w : ℕ) (at : Seeking rows count base due all next w) where
   -- the tick at which what is asked now would be met
   abbrev on : ℕ
   on = max (base + all) (w + 1) - 1

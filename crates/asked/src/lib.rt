@@ -2,26 +2,17 @@
 #![tactic(auto)]
 
 mod lines;
+mod rows;
 mod steps;
 
-ghost use Rattle.std.specs.Prelude.{◌≡◌, ◌≤◌, max, leb};
+ghost use Rattle.std.specs.Prelude.{◌≡◌, ◌≤◌, leb};
 ghost use Rattle.laws.specs.Choice.{pick};
 ghost use Rattle.asked.specs.Rows.{RowsFit, asked_by};
 ghost use Rattle.asked.specs.Met.{met_by, UnmetBelow, StillFrom};
 
 pub use lines::line_below;
 use model::Order;
-
-// Rows of members: their periods, then their costs, their shares and their deadlines, each at the member's rank.
-pub const PERIOD: usize = 0;
-
-pub const COST: usize = Order::MOST_TASKS;
-
-pub const SHARE: usize = 2 * Order::MOST_TASKS;
-
-pub const DEADLINE: usize = 3 * Order::MOST_TASKS;
-
-pub const ROWS: usize = 4 * Order::MOST_TASKS;
+pub use rows::{Row, Rows};
 
 // The parts of a whole processor: every number up to 19 divides them.
 pub const WHOLE: u64 = 3_491_888_400;
@@ -29,7 +20,7 @@ pub const WHOLE: u64 = 3_491_888_400;
 // What was found, and a tick before which nothing more is released.
 #[derive(Clone, Copy)]
 pub struct Searched {
-    pub found: Option<u64>,
+    pub found: Option<u32>,
     pub next: u32,
 }
 
@@ -49,14 +40,8 @@ pub struct Ahead {
     pub waited: u32,
 }
 
-fn further(x: u64, y: u64) -> u64
-    ensures { result ≡ max x y }
-{
-    if x < y { y } else { x }
-}
-
 // To the line: asked for at once again where it helped, else after twice as many steps.
-fn by_line(rows: &[u32; ROWS], count: usize, base: u64, w: u32, on: u64, pace: Pace) -> Ahead
+fn by_line(rows: &Rows, count: usize, base: u64, w: u32, on: u64, pace: Pace) -> Ahead
     requires { RowsFit rows.now count × (base ≤ 4_000_000) × (w ≤ 2_000_000) × (w ≤ on) × (pace.waited ≤ 15) × UnmetBelow (asked_by rows.now count) base on }
     ensures { (on ≤ result.to) × UnmetBelow (asked_by rows.now count) base result.to × (result.waited ≤ 15) }
 {
@@ -64,12 +49,12 @@ fn by_line(rows: &[u32; ROWS], count: usize, base: u64, w: u32, on: u64, pace: P
     let end = lines::line_end(base + line.rest, line.slope);
     if on < end {
         return Ahead {
-            to: further(on, end - 1),
+            to: on.max(end - 1),
             wait: 0,
             waited: 0,
         };
     }
-    let waits = model::smaller(2 * pace.waited + 1, 15);
+    let waits = (2 * pace.waited + 1).min(15);
     Ahead {
         to: on,
         wait: waits,
@@ -78,7 +63,7 @@ fn by_line(rows: &[u32; ROWS], count: usize, base: u64, w: u32, on: u64, pace: P
 }
 
 // Nothing before this tick meets what is asked; a line may lie further.
-fn go_ahead(rows: &[u32; ROWS], count: usize, base: u64, w: u32, on: u64, pace: Pace) -> Ahead
+fn go_ahead(rows: &Rows, count: usize, base: u64, w: u32, on: u64, pace: Pace) -> Ahead
     requires { RowsFit rows.now count × (base ≤ 4_000_000) × (w ≤ 2_000_000) × (w ≤ on) × (pace.waited ≤ 15) × UnmetBelow (asked_by rows.now count) base on }
     ensures { (on ≤ result.to) × UnmetBelow (asked_by rows.now count) base result.to × (result.waited ≤ 15) }
 {
@@ -96,20 +81,17 @@ fn go_ahead(rows: &[u32; ROWS], count: usize, base: u64, w: u32, on: u64, pace: 
 fn unless_past(w: u64, limit: u32, next: u32) -> Searched
     ensures { result ≡ record { found = pick (leb w limit) (Some w) None; next = next } }
 {
-    if model::wide(limit) < w {
-        return Searched {
-            found: None,
-            next,
-        };
+    if u64::from(limit) < w {
+        return Searched { found: None, next };
     }
     Searched {
-        found: Some(w),
+        found: Some(w as u32),
         next,
     }
 }
 
 // The smallest w up to the limit with base + what is asked by w ≤ w + 1, of which none is below from.
-pub fn met(rows: &[u32; ROWS], count: usize, base: u64, from: u32, limit: u32) -> Searched
+pub fn met(rows: &Rows, count: usize, base: u64, from: u32, limit: u32) -> Searched
     requires { RowsFit rows.now count × (base ≤ 4_000_000) × (from ≤ 2_000_000) × (limit ≤ 2_000_000) × UnmetBelow (asked_by rows.now count) base from }
     ensures found { result.found ≡ met_by (asked_by rows.now count) base limit }
     ensures still { StillFrom (asked_by rows.now count) result.found result.next }
@@ -125,12 +107,12 @@ pub fn met(rows: &[u32; ROWS], count: usize, base: u64, from: u32, limit: u32) -
         waited: 1,
     };
     while w <= limit {
-        let on = further(base + all, model::wide(w) + 1) - 1;
-        if on < model::wide(next) {
+        let on = (base + all).max(u64::from(w) + 1) - 1;
+        if on < u64::from(next) {
             return unless_past(on, limit, next);
         }
         let onward = go_ahead(rows, count, base, w, on, pace);
-        if model::wide(limit) < onward.to {
+        if u64::from(limit) < onward.to {
             return unless_past(onward.to, limit, next);
         }
         let to = onward.to as u32;
@@ -144,5 +126,5 @@ pub fn met(rows: &[u32; ROWS], count: usize, base: u64, from: u32, limit: u32) -
         next = step.next;
         w = to;
     }
-    unless_past(model::wide(w), limit, next)
+    unless_past(u64::from(w), limit, next)
 }

@@ -3,7 +3,7 @@ ghost use Rattle.std.specs.Prelude.{◌≡◌, ◌≤◌};
 ghost use Rattle.asked.specs.Rows.{RowsFit};
 ghost use Rattle.asked.specs.Lines.{line_of, line_in, line_end};
 
-use crate::{COST, PERIOD, ROWS, SHARE, WHOLE, steps};
+use crate::{Rows, WHOLE, steps};
 
 // What rests from a tick on, and the share of each tick that is added.
 #[derive(Clone, Copy)]
@@ -19,27 +19,25 @@ fn line_of(period: u32, cost: u32, share: u32, w: u32, reach: u32) -> Line
     if period <= reach {
         return Line {
             rest: 0,
-            slope: model::wide(share),
+            slope: u64::from(share),
         };
     }
     Line {
-        rest: model::wide(steps::releases_by(period, w)) * model::wide(cost),
+        rest: u64::from(steps::releases_by(period, w)) * u64::from(cost),
         slope: 0,
     }
 }
 
-pub fn line_below(rows: &[u32; ROWS], count: usize, w: u32, reach: u32) -> Line
+pub fn line_below(rows: &Rows, count: usize, w: u32, reach: u32) -> Line
     requires { RowsFit rows.now count × (w ≤ 2_000_000) }
     ensures { result ≡ line_in rows.now count w reach }
 {
     let mut rest: u64 = 0;
     let mut slope: u64 = 0;
-    let mut r: usize = 0;
-    while r < count {
-        let its = line_of(rows[PERIOD + r], rows[COST + r], rows[SHARE + r], w, reach);
-        rest = rest + its.rest;
-        slope = slope + its.slope;
-        r += 1;
+    for r in 0..count {
+        let its = line_of(rows.periods[r], rows.costs[r], rows.shares[r], w, reach);
+        rest += its.rest;
+        slope += its.slope;
     }
     Line { rest, slope }
 }

@@ -6,7 +6,7 @@ ghost use Rattle.model.specs.Limits.{most_tasks};
 ghost use Rattle.asked.specs.Rows.{RowsFit, cost_at, asked_by};
 ghost use Rattle.asked.specs.Steps.{far, due_after, onward, Dues, DuesBefore};
 
-use crate::{COST, PERIOD, ROWS};
+use crate::Rows;
 use model::Order;
 
 // All that is asked, and the first release to come.
@@ -28,7 +28,7 @@ pub fn releases_by(period: u32, w: u32) -> u32
 }
 
 // By w, with each member's next release.
-pub fn begin(rows: &[u32; ROWS], count: usize, w: u32, due: &mut [u32; Order::MOST_TASKS]) -> Step
+pub fn begin(rows: &Rows, count: usize, w: u32, due: &mut [u32; Order::MOST_TASKS]) -> Step
     requires { RowsFit rows.now count × (w ≤ 2_000_000) × (length due.old ≡ most_tasks) }
     ensures all { result.all ≡ asked_by rows.now count w }
     ensures next { result.next ≡ least far (due_after rows.now w) count }
@@ -36,14 +36,12 @@ pub fn begin(rows: &[u32; ROWS], count: usize, w: u32, due: &mut [u32; Order::MO
 {
     let mut all: u64 = 0;
     let mut next: u32 = 4_000_000;
-    let mut r: usize = 0;
-    while r < count {
-        let releases = releases_by(rows[PERIOD + r], w);
-        let then = releases * rows[PERIOD + r];
-        all = all + model::wide(releases) * model::wide(rows[COST + r]);
+    for r in 0..count {
+        let releases = releases_by(rows.periods[r], w);
+        let then = releases * rows.periods[r];
+        all += u64::from(releases) * u64::from(rows.costs[r]);
         due[r] = then;
-        next = model::smaller(next, then);
-        r += 1;
+        next = next.min(then);
     }
     Step { all, next }
 }
@@ -52,11 +50,11 @@ pub fn begin(rows: &[u32; ROWS], count: usize, w: u32, due: &mut [u32; Order::MO
 fn has_come(due: u32, w: u32) -> u32
     ensures { result ≡ only (leb due w) 1 }
 {
-    if w < due { 0 } else { 1 }
+    u32::from(due <= w)
 }
 
 // One release more of each member whose next one has come by w.
-fn advance(rows: &[u32; ROWS], count: usize, w: u32, due: &mut [u32; Order::MOST_TASKS]) -> Step
+fn advance(rows: &Rows, count: usize, w: u32, due: &mut [u32; Order::MOST_TASKS]) -> Step
     requires { RowsFit rows.now count × Dues due.old count }
     ensures all { result.all ≡ sum (λ i. only (leb (get_or due.old i 0) w) 1 * cost_at rows.now i) count }
     ensures next { result.next ≡ least far (onward rows.now due.old w) count }
@@ -64,24 +62,22 @@ fn advance(rows: &[u32; ROWS], count: usize, w: u32, due: &mut [u32; Order::MOST
 {
     let mut all: u32 = 0;
     let mut next: u32 = 4_000_000;
-    let mut r: usize = 0;
-    while r < count {
+    for r in 0..count {
         let more = has_come(due[r], w);
-        let then = due[r] + more * rows[PERIOD + r];
-        all = all + more * rows[COST + r];
+        let then = due[r] + more * rows.periods[r];
+        all += more * rows.costs[r];
         due[r] = then;
-        next = model::smaller(next, then);
-        r += 1;
+        next = next.min(then);
     }
     Step {
-        all: model::wide(all),
+        all: u64::from(all),
         next,
     }
 }
 
 // From an earlier tick on to w: by one release of each at most, else anew.
 pub fn go_on(
-    rows: &[u32; ROWS],
+    rows: &Rows,
     count: usize,
     all: u64,
     w: u32,

@@ -20,7 +20,7 @@ use Rattle.demand.specs.Priority.{deadline_of}
 use Rattle.demand.specs.Releases.{cost_of}
 use Rattle.demand.specs.Test.{verdict}
 use Rattle.demand.proofs.Membership.{verdict_same, every_alone_passes}
-use Rattle.asked.specs.Rows.{word_at}
+use Rattle.asked.specs.Rows.{cost_at, deadline_at}
 use Rattle.roster.specs.Keys.{key_of, key_at, with_key}
 use Rattle.roster.specs.Lined.{Lined}
 use Rattle.roster.proofs.Lining.{lined_same, lined_with}
@@ -35,8 +35,9 @@ use Rattle.fitting.proofs.Turning.{widths, step-put, step_open, step_refuse, ope
 use Rattle.placing.specs.Known.{OpenUntil, Known, InLine, Trying, Lowest}
 use Rattle.placing.proofs.Beside.{open_more}
 use Rattle.fit.specs.Taking.{Lines, Taking, Taken}
+use Rattle.asked.specs.declared.rows.Rows.{Rows}
 
-module _ (o : Order) (table : List ℕ) (s : Placing) (placed : ℕ) (keys lasts worsts : List ℕ) (t : Taking o table s placed keys lasts worsts) where
+module _ (o : Order) (table : Rows) (s : Placing) (placed : ℕ) (keys lasts worsts : List ℕ) (t : Taking o table s placed keys lasts worsts) where
   abbrev homes : List ℕ
   homes = s.homes
 
@@ -70,10 +71,10 @@ module _ (o : Order) (table : List ℕ) (s : Placing) (placed : ℕ) (keys lasts
           known = t.lines.known;
         }
 
-    pub deadline_is : word_at table i 3 ≡ deadline_of o i
+    pub deadline_is : deadline_at table i ≡ deadline_of o i
     deadline_is = (t.rows.each i next.below).deadline
 
-    pub deadline_near : word_at table i 3 ≤ 1_000_000
+    pub deadline_near : deadline_at table i ≤ 1_000_000
     deadline_near = (let task = t.limits.each i next.below in omega (arith, deadline_is, task.deadline_in.1, task.period_in.1))
 
     pub opened_few : s.opened < 32
@@ -83,7 +84,7 @@ module _ (o : Order) (table : List ℕ) (s : Placing) (placed : ℕ) (keys lasts
     room = omega (arith, task_small, t.lines.stands.numbered.places)
 
     -- the line with the task in its place
-    module _ (k key : ℕ) (few : k < unplaced) (key_is : key ≡ key_of k (word_at table i 3) i) (keys' : List ℕ) (put_in : keys' ≡ overlaid (with_key key keys placed) (placed + 1) keys) where
+    module _ (k key : ℕ) (few : k < unplaced) (key_is : key ≡ key_of k (deadline_at table i) i) (keys' : List ℕ) (put_in : keys' ≡ overlaid (with_key key keys placed) (placed + 1) keys) where
       abbrev homes' : List ℕ
       homes' = set homes i k
 
@@ -112,7 +113,7 @@ module _ (o : Order) (table : List ℕ) (s : Placing) (placed : ℕ) (keys lasts
 
     -- an open partition takes it
     pub seated : (k key : ℕ) (found : Option ℕ) (keys' lasts' worsts' : List ℕ) (r : Result Placing Refusal) → Lowest table keys placed lasts worsts i trying s.opened found lasts' worsts' → found ≡ Some k
-        → key ≡ key_of k (word_at table i 3) i → keys' ≡ overlaid (with_key key keys placed) (placed + 1) keys → r ≡ Ok (put s i k) → Taken o s placed r keys' lasts' worsts'
+        → key ≡ key_of k (deadline_at table i) i → keys' ≡ overlaid (with_key key keys placed) (placed + 1) keys → r ≡ Ok (put s i k) → Taken o s placed r keys' lasts' worsts'
     unfolding lowest_accepting
     seated k key found keys' lasts' worsts' r is at key_is put_in e =
         let lowest : lowest_accepting o s i ≡ Some k = sym is.answer ∙ at in
@@ -130,7 +131,7 @@ module _ (o : Order) (table : List ℕ) (s : Placing) (placed : ℕ) (keys lasts
         }
 
     -- none does: it stands alone in a new one
-    module _ (worsts' : List ℕ) (put-worst : worsts' ≡ set worsts i (word_at table i 1)) where
+    module _ (worsts' : List ℕ) (put-worst : worsts' ≡ set worsts i (cost_at table i)) where
       abbrev k : ℕ
       k = s.opened
 
@@ -141,10 +142,10 @@ module _ (o : Order) (table : List ℕ) (s : Placing) (placed : ℕ) (keys lasts
       alone j l away = alone_there o t.limits homes k placed t.lines.stands.numbered t.early i next j l away
 
       worst_other : (j : ℕ) → j ≢ i → get_or worsts' j 0 ≡ get_or worsts j 0
-      worst_other j away = ap (λ (xs : List ℕ). get_or xs j 0) put-worst ∙ get_or-set_other worsts i j (word_at table i 1) 0 away
+      worst_other j away = ap (λ (xs : List ℕ). get_or xs j 0) put-worst ∙ get_or-set_other worsts i j (cost_at table i) 0 away
 
       worst_own : get_or worsts' i 0 ≡ cost_of o i
-      worst_own = ap (λ (xs : List ℕ). get_or xs i 0) put-worst ∙ get_or-set_same worsts i (word_at table i 1) 0 (omega (arith, task_small, t.lines.known.worst_places)) ∙ (t.rows.each i next.below).cost_is
+      worst_own = ap (λ (xs : List ℕ). get_or xs i 0) put-worst ∙ get_or-set_same worsts i (cost_at table i) 0 (omega (arith, task_small, t.lines.known.worst_places)) ∙ (t.rows.each i next.below).cost_is
 
       was_placed : (j : ℕ) → j ≢ i → is_unplaced homes'' j ≡ false → is_unplaced homes j ≡ false
       was_placed j away p = sym (put-unplaced homes i k room j away) ∙ p
@@ -171,7 +172,7 @@ module _ (o : Order) (table : List ℕ) (s : Placing) (placed : ℕ) (keys lasts
       known_then =
           record {
             last_places = t.lines.known.last_places;
-            worst_places = ap (λ (xs : List ℕ). length xs) put-worst ∙ length-set worsts i (word_at table i 1) ∙ t.lines.known.worst_places;
+            worst_places = ap (λ (xs : List ℕ). length xs) put-worst ∙ length-set worsts i (cost_at table i) ∙ t.lines.known.worst_places;
             waiting = λ j l u. (let away : j ≢ i = λ e. clash (sym (put_placed homes i k room opened_few) ∙ ap (is_unplaced homes'') (sym e) ∙ u) in
                 t.lines.known.waiting j l (sym (put-unplaced homes i k room j away) ∙ u));
             near = t.lines.known.near;
@@ -180,7 +181,7 @@ module _ (o : Order) (table : List ℕ) (s : Placing) (placed : ℕ) (keys lasts
           }
 
       pub alone_seated : (key : ℕ) (found : Option ℕ) (keys' : List ℕ) (r : Result Placing Refusal) → found ≡ lowest_accepting o s i → found ≡ None
-          → key ≡ key_of k (word_at table i 3) i → keys' ≡ overlaid (with_key key keys placed) (placed + 1) keys → r ≡ told (opening o s i) → Taken o s placed r keys' lasts worsts'
+          → key ≡ key_of k (deadline_at table i) i → keys' ≡ overlaid (with_key key keys placed) (placed + 1) keys → r ≡ told (opening o s i) → Taken o s placed r keys' lasts worsts'
       alone_seated key found keys' r lowest none key_is put_in e = elim (dec_le (width_of o i) (o.processors - s.used)) [
         | yes fits ↦ (let on : r ≡ Ok (put (open_next s (width_of o i)) i k) = e ∙ ap told (opening_new o s i fits) in
             record {
@@ -209,10 +210,10 @@ module _ (o : Order) (table : List ℕ) (s : Placing) (placed : ℕ) (keys lasts
 
     -- none takes it, as the search leaves what is known
     pub none_takes : (key : ℕ) (found : Option ℕ) (keys' lasts₁ worsts₁ : List ℕ) (r : Result Placing Refusal) → Lowest table keys placed lasts worsts i trying s.opened found lasts₁ worsts₁ → found ≡ None
-        → key ≡ key_of s.opened (word_at table i 3) i → keys' ≡ overlaid (with_key key keys placed) (placed + 1) keys → r ≡ told (opening o s i)
-        → Taken o s placed r keys' lasts₁ (set worsts₁ i (word_at table i 1))
+        → key ≡ key_of s.opened (deadline_at table i) i → keys' ≡ overlaid (with_key key keys placed) (placed + 1) keys → r ≡ told (opening o s i)
+        → Taken o s placed r keys' lasts₁ (set worsts₁ i (cost_at table i))
     unfolding lowest_accepting
     none_takes key found keys' lasts₁ worsts₁ r is none key_is put_in e =
         let kept = is.refused none in
-        subst (λ (ls : List ℕ). Taken o s placed r keys' ls (set worsts₁ i (word_at table i 1))) (sym kept.0)
-        (alone_seated (set worsts₁ i (word_at table i 1)) (ap (λ (ws : List ℕ). set ws i (word_at table i 1)) kept.1) key found keys' r is.answer none key_is put_in e)
+        subst (λ (ls : List ℕ). Taken o s placed r keys' ls (set worsts₁ i (cost_at table i))) (sym kept.0)
+        (alone_seated (set worsts₁ i (cost_at table i)) (ap (λ (ws : List ℕ). set ws i (cost_at table i)) kept.1) key found keys' r is.answer none key_is put_in e)

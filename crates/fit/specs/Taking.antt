@@ -12,6 +12,7 @@ use Rattle.fitting.specs.Steps.{told, turn_taken, first_fit}
 use Rattle.fitting.specs.Standing.{Stands}
 use Rattle.placing.specs.Known.{Known, InLine}
 use Rattle.fit.specs.Recorded.{recorded_as}
+use Rattle.asked.specs.declared.rows.Rows.{Rows}
 
 pub record Lines (o : Order) (s : Placing) (placed : ℕ) (keys lasts worsts : List ℕ) : Type 0 where
   pub stands : Stands o placed s
@@ -20,7 +21,7 @@ pub record Lines (o : Order) (s : Placing) (placed : ℕ) (keys lasts worsts : L
   pub known : Known o s.homes lasts worsts
 
 -- a turn is to be taken
-pub record Taking (o : Order) (table : List ℕ) (s : Placing) (placed : ℕ) (keys lasts worsts : List ℕ) : Type 0 where
+pub record Taking (o : Order) (table : Rows) (s : Placing) (placed : ℕ) (keys lasts worsts : List ℕ) : Type 0 where
   pub limits : WithinLimits o
   pub rows : RowsByNumber o o.tasks table
   pub early : placed < o.tasks

@@ -5,7 +5,7 @@ ghost use Rattle.model.specs.Rules.{WithinLimits};
 ghost use Rattle.fitting.specs.Steps.{opening, told};
 ghost use Rattle.fit.specs.Taking.{Taking, Taken, AllTaken};
 
-use asked::{COST, DEADLINE, ROWS};
+use asked::Rows;
 use fitting::Placing;
 use model::{CallCause, Order, Refusal};
 
@@ -24,7 +24,7 @@ fn open_for(order: &Order, placing: Placing, task: usize) -> Result<Placing, Ref
 // The turn of one task.
 fn take_turn(
     order: &Order,
-    table: &[u32; ROWS],
+    table: &Rows,
     placing: Placing,
     placed: usize,
     keys: &mut [u32; Order::MOST_TASKS],
@@ -37,13 +37,13 @@ fn take_turn(
     let Some(task) = turns::next_task(order, &placing.homes) else {
         return Ok(placing);
     };
-    let deadline = table[DEADLINE + task];
+    let deadline = table.deadlines[task];
     let found = placing::lowest_accepting(table, keys, placed, task, placing.opened, lasts, worsts);
     if let Some(home) = found {
         roster::put_in(keys, placed, roster::key_of(home, deadline, task));
         return Ok(placing.put(task, home));
     }
-    worsts[task] = table[COST + task];
+    worsts[task] = table.costs[task];
     roster::put_in(keys, placed, roster::key_of(placing.opened, deadline, task));
     open_for(order, placing, task)
 }

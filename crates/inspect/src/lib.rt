@@ -25,8 +25,7 @@ fn judge_records(order: &Order, build: &Build) -> Result<(), Refusal>
     inspect_members::judge_widths(*order, *build)?;
     let keys = inspect_members::line_up(*order, *build);
     inspect_members::judge_ranks(*order, *build, keys)?;
-    inspect_tests::judge_tests(*order, *build, keys)?;
-    Ok(())
+    inspect_tests::judge_tests(*order, *build, keys)
 }
 
 // 20 to 30, of an order that was read; and the build.

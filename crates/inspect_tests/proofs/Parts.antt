@@ -1,6 +1,7 @@
 -- A partition's members copied from the line, with their rows: what their tests need, and what these give.
 use mathlib.Core.Path.{◌≡◌, sym, ap, ◌∙◌, subst}
 use mathlib.Core.Bool.{true}
+use Rattle.std.specs.Prelude.{None, Option}
 use mathlib.Core.List.{List}
 use mathlib.Core.Logic.{⊎_elim}
 use Prim.Native.Nat.{ℕ, ◌+◌, ◌-◌, ◌≤◌, ◌<◌}
@@ -13,7 +14,7 @@ use Rattle.model.specs.declared.build.Build.{Build}
 use Rattle.model.specs.Limits.{most_tasks, task_of, home_of}
 use Rattle.demand.specs.Priority.{members_of}
 use Rattle.demand.specs.Releases.{work_by}
-use Rattle.demand.specs.Test.{blocking, higher_work, verdict, response_of}
+use Rattle.demand.specs.Test.{blocking, higher_work, verdict}
 use Rattle.asked.specs.Rows.{RowsFit, asked_by, blocking_in}
 use Rattle.asked.specs.Met.{UnmetBelow}
 use Rattle.roster.specs.Keys.{home_in, key_number, key_at, number_at, lives_in}
@@ -25,11 +26,13 @@ use Rattle.roster.proofs.Ranks.{place_of}
 use Rattle.roster.proofs.Rowing.{row_alike}
 use Rattle.roster.proofs.Runs.{run_most}
 use Rattle.roster.proofs.Tied.{rows_fit, verdict_is, blocking_is, asked_with}
+use Rattle.verdict.specs.Tested.{worst_of}
 use Rattle.trial.specs.Known.{of_rank, Apart, Bounds, verdict_at}
 use Rattle.inspect_members.proofs.Stretches.{numbers_apart, part_ranked}
-use Rattle.inspect_tests.specs.Results.{Lineup, verdict_here, OpenBelow, TestedRanks}
+use Rattle.inspect_tests.specs.Results.{Lineup, verdict_here, OpenBelow, worst_at, TestedRanks}
+use Rattle.asked.specs.declared.rows.Rows.{Rows}
 
-module _ (table keys : List ℕ) (tasks : ℕ) (o : Order) (b : Build) (is : Lineup table keys tasks o b) where
+module _ (table : Rows) (keys : List ℕ) (tasks : ℕ) (o : Order) (b : Build) (is : Lineup table keys tasks o b) where
   pub few_tasks : tasks ≤ most_tasks
   few_tasks = omega (arith, is.in_line.count, is.in_line.limits.tasks.1)
 
@@ -73,9 +76,9 @@ module _ (table keys : List ℕ) (tasks : ℕ) (o : Order) (b : Build) (is : Lin
         (λ f'. part_next o is.in_line.limits (λ j. true) (home_of b) keys o.tasks is.in_line.line first home f') from in
         omega (arith, next.earlier r l, next.later s f k)
 
-    module _ (rows : List ℕ) (filled : RowsInLine table own size rows) where
+    module _ (rows : Rows) (filled : RowsInLine table own size rows) where
       rows_of : RowsOf o (number_at own) size rows
-      rows_of r l = row_alike table rows (number_at own r) r (task_of o (number_at own r)) (λ k lk. filled.each r k l lk) (is.rows.each (number_at own r) (omega (arith, is.in_line.count, ranked.within r l)))
+      rows_of r l = row_alike table rows (number_at own r) r (task_of o (number_at own r)) (filled.each r l) (is.rows.each (number_at own r) (omega (arith, is.in_line.count, ranked.within r l)))
 
       pub fit : RowsFit rows size
       fit = rows_fit o is.in_line.limits (members_of b home) (number_at own) size rows ranked size_few rows_of
@@ -107,7 +110,7 @@ module _ (table keys : List ℕ) (tasks : ℕ) (o : Order) (b : Build) (is : Lin
           let mine : (r : ℕ) → r < size → OpenBelow o b (number_at own r) (of_rank own lasts r) = λ r l. still (number_at own r) (omega (arith, is.in_line.count, ranked.within r l)) in
           record { places = places; near = λ r l. (mine r l).near; unmet = λ r l. unmet_rows r (of_rank own lasts r) l (mine r l) }
 
-      module _ (lowest : ℕ) (lasts worsts : List ℕ) (lowest' : ℕ) (lasts' worsts' : List ℕ) (tested : TestedRanks rows own size size lowest lasts worsts lowest' lasts' worsts') where
+      module _ (lowest : ℕ) (lasts : List ℕ) (worsts : List (Option ℕ)) (lowest' : ℕ) (lasts' : List ℕ) (worsts' : List (Option ℕ)) (tested : TestedRanks rows own size size lowest lasts worsts lowest' lasts' worsts') where
         -- windows stay open so long
         pub still_after : ((i : ℕ) → i < tasks → OpenBelow o b i (get_or lasts i 0)) → (i : ℕ) → i < tasks → OpenBelow o b i (get_or lasts' i 0)
         still_after still i l = elim (ℕ_discrete (home_of b i) home) [
@@ -118,21 +121,21 @@ module _ (table keys : List ℕ) (tasks : ℕ) (o : Order) (b : Build) (is : Lin
         ]
 
         -- the lowest that fails
-        pub fails_after : (lowest < tasks → response_of (verdict_here o b lowest) ≡ 0) → lowest' < tasks → response_of (verdict_here o b lowest') ≡ 0
+        pub fails_after : (lowest < tasks → worst_of (verdict_here o b lowest) ≡ None) → lowest' < tasks → worst_of (verdict_here o b lowest') ≡ None
         fails_after known l =
             ⊎_elim
-            (λ e. ap (λ (x : ℕ). response_of (verdict_here o b x)) e ∙ known (omega (arith, e, l)))
-            (λ f. ap (λ (x : ℕ). response_of (verdict_here o b x)) (sym f.2) ∙ sym (ap response_of (verdict_at_lem f.0 f.1)) ∙ f.3)
+            (λ e. ap (λ (x : ℕ). worst_of (verdict_here o b x)) e ∙ known (omega (arith, e, l)))
+            (λ f. ap (λ (x : ℕ). worst_of (verdict_here o b x)) (sym f.2) ∙ sym (ap worst_of (verdict_at_lem f.0 f.1)) ∙ f.3)
             tested.fails
 
         -- and the responses of all below it before the next partition are known
-        pub responses_after : ((r : ℕ) → r < first → number_at keys r < lowest → get_or worsts (number_at keys r) 0 ≡ response_of (verdict_here o b (number_at keys r))) →
-            (r : ℕ) → r < first + size → number_at keys r < lowest' → get_or worsts' (number_at keys r) 0 ≡ response_of (verdict_here o b (number_at keys r))
+        pub responses_after : ((r : ℕ) → r < first → number_at keys r < lowest → worst_at worsts (number_at keys r) ≡ worst_of (verdict_here o b (number_at keys r))) →
+            (r : ℕ) → r < first + size → number_at keys r < lowest' → worst_at worsts' (number_at keys r) ≡ worst_of (verdict_here o b (number_at keys r))
         responses_after known r l below = elim (dec_lt r first) [
           | yes early ↦ tested.other_worsts (number_at keys r) (λ s f t e. absurd (omega (arith, early, apart (first + s) r (omega (arith, size_most)) (omega (arith, size_most)) (sym (own_number s t) ∙ e)))) ∙ known r early (omega (arith, below, tested.lower))
           | no late ↦ (let s = r - first in
               let inside : s < size = omega arith in
               let e : first + s ≡ r = omega arith in
               let here : number_at own s ≡ number_at keys r = own_number s inside ∙ ap (number_at keys) e in
-              subst (λ (x : ℕ). get_or worsts' x 0 ≡ response_of (verdict_here o b x)) here (tested.responses s inside (omega (arith, below, here)) ∙ ap response_of (verdict_at_lem s inside)))
+              subst (λ (x : ℕ). worst_at worsts' x ≡ worst_of (verdict_here o b x)) here (tested.responses s inside (omega (arith, below, here)) ∙ ap worst_of (verdict_at_lem s inside)))
         ]

@@ -2,6 +2,7 @@
 use mathlib.Core.Path.{◌≡◌, refl, sym, ap, ◌∙◌, subst}
 use mathlib.Core.Bool.{Bool, false}
 use mathlib.Core.List.{List}
+use Rattle.std.specs.Prelude.{None, Option}
 use Prim.Native.Nat.{ℕ, ◌+◌, ◌-◌, ◌≤◌, ◌<◌}
 use native.Mathlib.Decide.{ℕ_discrete}
 use native.Mathlib.Omega.{arith}
@@ -13,10 +14,9 @@ use Rattle.model.specs.declared.build.Member.{Member}
 use Rattle.model.specs.declared.build.Build.{Build}
 use Rattle.model.specs.Limits.{most_tasks}
 use Rattle.demand.specs.Priority.{members_of, rank}
-use Rattle.demand.specs.Test.{response_of}
 use Rattle.asked.specs.Rows.{RowsFit, row_task, asked_by, blocking_in}
 use Rattle.asked.specs.Met.{UnmetBelow}
-use Rattle.verdict.specs.Tested.{is_there, window_of}
+use Rattle.verdict.specs.Tested.{is_there, window_of, worst_of}
 use Rattle.roster.specs.Keys.{home_in, key_at, number_at, lives_in, run_from}
 use Rattle.roster.specs.Lined.{PartFrom, part_size}
 use Rattle.roster.specs.Rows.{RowsInLine}
@@ -25,16 +25,17 @@ use Rattle.roster.proofs.Runs.{run_on, run_most, run_passes, run_stops}
 use Rattle.trial.specs.Known.{Apart, Bounds}
 use Rattle.inspect_members.proofs.Stretches.{homes_rise, placed}
 use Rattle.inspect_tests.specs.Rules.{window_there}
-use Rattle.inspect_tests.specs.Results.{SomeLineup, verdict_here, OpenBelow, TestedRanks, TestedBefore, ResultsFor, TaskThere}
+use Rattle.inspect_tests.specs.Results.{SomeLineup, verdict_here, OpenBelow, worst_at, TestedRanks, TestedBefore, ResultsFor, TaskThere}
 use Rattle.inspect_tests.proofs.Parts.{few_tasks, size_few, ranked, own_place, own_apart, next_ends, fit, verdict_at_lem, unmet_rows, bounds_of, still_after, fails_after, responses_after}
 use Rattle.inspect_tests.proofs.Verdicts.{window_over_lem}
+use Rattle.asked.specs.declared.rows.Rows.{Rows}
 
 -- a copy of so many keys of the line
 abbrev pub Copied : (keys : List ℕ) → (first : ℕ) → (own : List ℕ) → (n : ℕ) → Type 0
 Copied keys first own n = (r : ℕ) → r < n → key_at own r ≡ key_at keys (first + r)
 
 -- nothing tested
-pub before_all : (table keys : List ℕ) (tasks : ℕ) → TestedBefore table keys tasks 0 most_tasks (replicate 32 0) (replicate 32 0)
+pub before_all : (table : Rows) (keys : List ℕ) (tasks : ℕ) → TestedBefore table keys tasks 0 most_tasks (replicate 32 0) (replicate 32 None)
 before_all table keys tasks =
     record {
       upto = omega arith;
@@ -50,20 +51,20 @@ before_all table keys tasks =
     }
 
 -- all tested
-pub after_all : (table keys : List ℕ) (tasks : ℕ) (first lowest : ℕ) (lasts worsts : List ℕ) → tasks ≤ first → TestedBefore table keys tasks first lowest lasts worsts → ResultsFor table keys tasks (record { worsts = worsts; lasts = lasts })
+pub after_all : (table : Rows) (keys : List ℕ) (tasks : ℕ) (first lowest : ℕ) (lasts : List ℕ) (worsts : List (Option ℕ)) → tasks ≤ first → TestedBefore table keys tasks first lowest lasts worsts → ResultsFor table keys tasks (record { worsts = worsts; lasts = lasts })
 after_all table keys tasks first lowest lasts worsts all known o b is =
     record {
       lowest = lowest;
       none = known.none;
       responses = λ i l upto. elim (ℕ_discrete i lowest) [
-        | yes same ↦ ap (λ (x : ℕ). get_or worsts x 0) same ∙ known.none ∙ sym (known.fails o b is (omega (arith, same, l, is.in_line.count))) ∙ ap (λ (x : ℕ). response_of (verdict_here o b x)) (sym same)
+        | yes same ↦ ap (worst_at worsts) same ∙ known.none ∙ sym (known.fails o b is (omega (arith, same, l, is.in_line.count))) ∙ ap (λ (x : ℕ). worst_of (verdict_here o b x)) (sym same)
         | no other ↦ (let place = placed o b is.in_line.limits keys is.in_line.line i l in
-            subst (λ (x : ℕ). get_or worsts x 0 ≡ response_of (verdict_here o b x)) place.2 (known.responses o b is place.0 (omega (arith, place.1, is.in_line.count, all)) (omega (arith, place.2, other, upto))))
+            subst (λ (x : ℕ). worst_at worsts x ≡ worst_of (verdict_here o b x)) place.2 (known.responses o b is place.0 (omega (arith, place.1, is.in_line.count, all)) (omega (arith, place.2, other, upto))))
       ];
       still = λ i l. known.still o b is i (omega (arith, is.in_line.count));
     }
 
-module _ (table keys : List ℕ) (tasks first lowest : ℕ) (lasts worsts : List ℕ) (some : SomeLineup table keys tasks) (here : first < tasks) (known : TestedBefore table keys tasks first lowest lasts worsts) where
+module _ (table : Rows) (keys : List ℕ) (tasks first lowest : ℕ) (lasts : List ℕ) (worsts : List (Option ℕ)) (some : SomeLineup table keys tasks) (here : first < tasks) (known : TestedBefore table keys tasks first lowest lasts worsts) where
   abbrev home : ℕ
   home = home_in (key_at keys first)
 
@@ -81,9 +82,9 @@ module _ (table keys : List ℕ) (tasks first lowest : ℕ) (lasts worsts : List
   pub part_some : 0 < part_size keys tasks first home
   part_some = omega (arith, run_on (lives_in home keys) first (tasks - first) (omega (arith, here)) (eq-eqb home home refl))
 
-  module _ (own rows : List ℕ) where
+  module _ (own : List ℕ) (rows : Rows) where
     needs_at : Copied keys first own (part_size keys tasks first home) → RowsInLine table own (part_size keys tasks first home) rows →
-        RowsFit rows (part_size keys tasks first home) × Apart own (part_size keys tasks first home) × Bounds rows own (part_size keys tasks first home) lasts × (length worsts ≡ most_tasks) × (get_or worsts lowest 0 ≡ 0)
+        RowsFit rows (part_size keys tasks first home) × Apart own (part_size keys tasks first home) × Bounds rows own (part_size keys tasks first home) lasts × (length worsts ≡ most_tasks) × (worst_at worsts lowest ≡ None)
     needs_at copied filled =
         let o = some.0 in
         let b = some.1 in
@@ -95,10 +96,10 @@ module _ (table keys : List ℕ) (tasks first lowest : ℕ) (lasts worsts : List
           known.none,
         )
 
-    pub part_needs : (n : ℕ) → n ≡ part_size keys tasks first home → Copied keys first own n → RowsInLine table own n rows → RowsFit rows n × Apart own n × Bounds rows own n lasts × (length worsts ≡ most_tasks) × (get_or worsts lowest 0 ≡ 0)
-    part_needs n e = subst (λ (x : ℕ). Copied keys first own x → RowsInLine table own x rows → RowsFit rows x × Apart own x × Bounds rows own x lasts × (length worsts ≡ most_tasks) × (get_or worsts lowest 0 ≡ 0)) (sym e) needs_at
+    pub part_needs : (n : ℕ) → n ≡ part_size keys tasks first home → Copied keys first own n → RowsInLine table own n rows → RowsFit rows n × Apart own n × Bounds rows own n lasts × (length worsts ≡ most_tasks) × (worst_at worsts lowest ≡ None)
+    part_needs n e = subst (λ (x : ℕ). Copied keys first own x → RowsInLine table own x rows → RowsFit rows x × Apart own x × Bounds rows own x lasts × (length worsts ≡ most_tasks) × (worst_at worsts lowest ≡ None)) (sym e) needs_at
 
-    gives_at : (lowest' : ℕ) (lasts' worsts' : List ℕ) → Copied keys first own (part_size keys tasks first home) → RowsInLine table own (part_size keys tasks first home) rows →
+    gives_at : (lowest' : ℕ) (lasts' : List ℕ) (worsts' : List (Option ℕ)) → Copied keys first own (part_size keys tasks first home) → RowsInLine table own (part_size keys tasks first home) rows →
         TestedRanks rows own (part_size keys tasks first home) (part_size keys tasks first home) lowest lasts worsts lowest' lasts' worsts' → (0 < part_size keys tasks first home) × TestedBefore table keys tasks (first + part_size keys tasks first home) lowest' lasts' worsts'
     gives_at lowest' lasts' worsts' copied filled tested =
         let o₀ = some.0 in
@@ -117,16 +118,16 @@ module _ (table keys : List ℕ) (tasks first lowest : ℕ) (lasts worsts : List
           },
         )
 
-    pub part_gives : (n : ℕ) → n ≡ part_size keys tasks first home → (lowest' : ℕ) (lasts' worsts' : List ℕ) → Copied keys first own n → RowsInLine table own n rows →
+    pub part_gives : (n : ℕ) → n ≡ part_size keys tasks first home → (lowest' : ℕ) (lasts' : List ℕ) (worsts' : List (Option ℕ)) → Copied keys first own n → RowsInLine table own n rows →
         TestedRanks rows own n n lowest lasts worsts lowest' lasts' worsts' → (0 < n) × TestedBefore table keys tasks (first + n) lowest' lasts' worsts'
     part_gives n e lowest' lasts' worsts' =
         subst (λ (x : ℕ). Copied keys first own x → RowsInLine table own x rows → TestedRanks rows own x x lowest lasts worsts lowest' lasts' worsts' → (0 < x) × TestedBefore table keys tasks (first + x) lowest' lasts' worsts') (sym e) (gives_at lowest' lasts' worsts')
 
 -- a count of n is few
-pub part_few : (table keys : List ℕ) (tasks : ℕ) → SomeLineup table keys tasks → (first n : ℕ) (lives : ℕ) → n ≡ part_size keys tasks first lives → n ≤ most_tasks
+pub part_few : (table : Rows) (keys : List ℕ) (tasks : ℕ) → SomeLineup table keys tasks → (first n : ℕ) (lives : ℕ) → n ≡ part_size keys tasks first lives → n ≤ most_tasks
 part_few table keys tasks some first n lives e = omega (arith, e, run_most (lives_in lives keys) first (tasks - first), few_tasks table keys tasks some.0 some.1 some.2)
 
-module _ (table keys : List ℕ) (tasks : ℕ) (member : Member) (last : ℕ) (o : Order) (b : Build) (i : ℕ) (task : TaskThere table keys tasks member last o b i)
+module _ (table : Rows) (keys : List ℕ) (tasks : ℕ) (member : Member) (last : ℕ) (o : Order) (b : Build) (i : ℕ) (task : TaskThere table keys tasks member last o b i)
     (first : ℕ) (first_is : first ≡ run_from (λ s. ltb (home_in (key_at keys s)) member.partition) 0 tasks) where
   abbrev smaller : ℕ → Bool
   smaller s = ltb (home_in (key_at keys s)) member.partition
@@ -148,7 +149,7 @@ module _ (table keys : List ℕ) (tasks : ℕ) (member : Member) (last : ℕ) (o
             omega (arith, least, homes_rise o b is.in_line.limits keys is.in_line.line first s f (omega (arith, is.in_line.count)));
       }
 
-  module _ (own rows : List ℕ) where
+  module _ (own : List ℕ) (rows : Rows) where
     abbrev size : ℕ
     size = part_size keys tasks first member.partition
 

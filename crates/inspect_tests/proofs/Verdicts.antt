@@ -1,10 +1,9 @@
--- What a worst response of 0 and a window tell of a verdict; and what the tests of 27 to 30 tell of a member, each where those before it hold.
+-- What no worst response and a window tell of a verdict; and what the tests of 27 to 30 tell of a member, each where those before it hold.
 use Rattle.std.specs.Prelude.{Some, None, Option, Ok, Err}
 use mathlib.Core.Path.{◌≡◌, refl, sym, ap, ◌∙◌, subst}
 use mathlib.Core.Bool.{Bool, true, false}
 use mathlib.Core.Logic.{◌↔◌, ◌⊎◌, inl, inr}
 use Prim.Native.Nat.{ℕ, ◌*◌, ◌≤◌, ◌<◌}
-use native.Mathlib.Nat.{zero-mul}
 use native.Mathlib.Omega.{arith}
 use lib.Dec.{leb}
 use borrow.Author.Tests.{eq-eqb, eqb-true}
@@ -20,13 +19,12 @@ use Rattle.demand.specs.Priority.{Members, members_of, deadline_of}
 use Rattle.demand.specs.Releases.{period_of, jobs}
 use Rattle.demand.specs.Verdict.{Verdict}
 use Rattle.demand.specs.declared.Failing.TheVariants.{NoWindow, NoStart, TooLate}
-use Rattle.demand.specs.Test.{window_demand, start_demand, verdict, first_met, largest_found, judged, verdict_by, response_of}
+use Rattle.demand.specs.Test.{window_demand, start_demand, verdict, first_met, largest_found, judged, verdict_by}
 use Rattle.demand.specs.Over.{window_over, response_over, verdict_over}
 use Rattle.demand.specs.Meaning.{IsResponse, IsPassing, VerdictMeans}
-use Rattle.demand.proofs.Demands.{sized_of}
 use Rattle.demand.proofs.Meaning.{every_verdict_means, no_start_never}
 use Rattle.demand.proofs.FirstMet.{met_one}
-use Rattle.verdict.specs.Tested.{is_there, window_of}
+use Rattle.verdict.specs.Tested.{is_there, window_of, worst_of}
 use Rattle.inspect_tests.specs.Rules.{WindowThere, StartsThere, IsWorst, InTime, window_there, starts_there, in_time, response_right, verdict_rules, task_test_rules, test_rules}
 
 -- a window is there exactly where the verdict has one
@@ -46,13 +44,6 @@ pub window_over_lem : (work : ℕ → ℕ) (blocking : ℕ) (task : Task) → is
 unfolding window_of verdict_over
 window_over_lem work blocking task = window_by (first_met (window_over work blocking task) 1) (λ L. largest_found (response_over work blocking task) (jobs task L)) task.deadline
 
--- a verdict with a worst response passes with it
-pub some_response : (v : Verdict) → 0 < response_of v → v ≡ Ok (response_of v)
-some_response (Ok worst) l = refl
-some_response (Err NoWindow) l = absurd (omega arith)
-some_response (Err NoStart) l = absurd (omega arith)
-some_response (Err TooLate) l = absurd (omega arith)
-
 -- what 27 to 30 say of member i
 module _ (o : Order) (member : Members) (i : ℕ) where
   pub passing_worst : (worst : ℕ) → IsPassing o member i worst → IsWorst o member i worst
@@ -68,19 +59,12 @@ module _ (o : Order) (member : Members) (i : ℕ) where
     abbrev verdict_means : VerdictMeans o member i
     verdict_means = every_verdict_means o member i limits mine
 
-    -- a member that passes has a response of at least its cost
-    passing_some : (worst : ℕ) → verdict o member i ≡ Ok worst → 0 < worst
-    passing_some worst e =
-        let p = (verdict_means.passes worst).0 e in
-        let first = p.each 0 (omega (arith, zero-mul (period_of o i), p.window.from)) in
-        omega (arith, first.1.response_is, first.2, (sized_of o limits i mine).cost-least)
-
-    -- without one it has no window, or is late
-    pub no_response : response_of (verdict o member i) ≡ 0 → (verdict o member i ≡ Err NoWindow) ⊎ (verdict o member i ≡ Err TooLate)
+    -- without a worst response it has no window, or is late
+    pub no_response : worst_of (verdict o member i) ≡ None → (verdict o member i ≡ Err NoWindow) ⊎ (verdict o member i ≡ Err TooLate)
     no_response none = go (verdict o member i) refl
       where
         go : (v : Verdict) → verdict o member i ≡ v → (verdict o member i ≡ Err NoWindow) ⊎ (verdict o member i ≡ Err TooLate)
-        go (Ok worst) e = absurd (omega (arith, passing_some worst e, sym (ap response_of e) ∙ none))
+        go (Ok worst) e = (let z : ◌≡◌ {A = Option ℕ} (Some worst) None = sym (ap worst_of e) ∙ none in cc)
         go (Err NoWindow) e = inl e
         go (Err NoStart) e = absurd (no_start_never o member i limits mine e)
         go (Err TooLate) e = inr e

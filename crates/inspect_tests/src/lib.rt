@@ -1,24 +1,24 @@
 // 27 to 30: the response test of each task, and its recorded response.
 #![tactic(auto)]
 
-ghost use Rattle.std.specs.Prelude.{◌≡◌, ◌+◌, ◌≤◌, ◌<◌, ltb, length, get_or};
+ghost use Rattle.std.specs.Prelude.{◌≡◌, ◌+◌, ◌≤◌, ◌<◌, ltb, length, None};
 ghost use Rattle.model.specs.Limits.{most_tasks};
-ghost use Rattle.model.specs.Rules.{first_broken, WithinLimits};
+ghost use Rattle.model.specs.Rules.{first_broken, given, WithinLimits};
 ghost use Rattle.asked.specs.Rows.{RowsFit};
 ghost use Rattle.roster.specs.Keys.{home_in, key_at, run_from};
 ghost use Rattle.trial.specs.Known.{Apart, Bounds};
 ghost use Rattle.inspect_members.specs.Line.{LineOf};
 ghost use Rattle.inspect_tests.specs.Rules.{test_rules};
-ghost use Rattle.inspect_tests.specs.Results.{SomeLineup, last_above, TestedBelow, Lowered, TestedRanks, TestedBefore, ResultsFor, right_response, SomeTaskThere, TellsWindow, RanksRecorded};
+ghost use Rattle.inspect_tests.specs.Results.{SomeLineup, last_above, TestedBelow, lowered, worst_at, TestedRanks, TestedBefore, ResultsFor, FirstWrong, SomeTaskThere, TellsWindow, RanksRecorded};
 
-use asked::ROWS;
+use asked::Rows;
 use model::{Build, BuildCause, Member, Order, Refusal};
 use verdict::Tested;
 
-// By number, of the tasks up to the lowest that does not pass: a task's worst response, 0 where it does not pass; and of every task a tick before which its window does not close.
+// By number, of the tasks up to the lowest that does not pass: a task's worst response if it passes; and of every task a tick before which its window does not close.
 #[derive(Clone, Copy)]
 pub struct Results {
-    pub worsts: [u32; Order::MOST_TASKS],
+    pub worsts: [Option<u32>; Order::MOST_TASKS],
     pub lasts: [u32; Order::MOST_TASKS],
 }
 
@@ -42,7 +42,7 @@ fn last_above(keys: &[u32; Order::MOST_TASKS], rank: usize, lasts: &[u32; Order:
 
 // The test of a member, left out where the answer is that of a lower number: its window closes no earlier than the one above it.
 fn test_below(
-    rows: &[u32; ROWS],
+    rows: &Rows,
     keys: &[u32; Order::MOST_TASKS],
     count: usize,
     rank: usize,
@@ -53,69 +53,59 @@ fn test_below(
     ensures { TestedBelow rows.now keys.now count rank lowest result }
 {
     if lowest <= roster::number_in(keys[rank]) {
-        let last = last_above(keys, rank, lasts);
-        return Tested {
-            passes: false,
-            worst: 0,
-            last,
-        };
+        return Tested::failed(last_above(keys, rank, lasts));
     }
     trial::test_rank(rows, keys, count, rank, lasts)
 }
 
 // The lowest number of a task that does not pass, with one task more.
-fn lowered(lowest: usize, number: usize, worst: u32) -> usize
-    ensures { Lowered lowest number worst result }
+fn lowered(lowest: usize, number: usize, worst: Option<u32>) -> usize
+    ensures { result ≡ lowered lowest number worst }
 {
-    if 0 < worst {
-        return lowest;
+    match worst {
+        Some(_) => lowest,
+        None => lowest.min(number),
     }
-    if lowest < number {
-        return lowest;
-    }
-    number
 }
 
 // The members of a partition, rank by rank, each from what is known of those above it; the lowest number of a task that does not pass.
 fn test_members(
-    rows: &[u32; ROWS],
+    rows: &Rows,
     keys: &[u32; Order::MOST_TASKS],
     count: usize,
     lowest: usize,
     lasts: &mut [u32; Order::MOST_TASKS],
-    worsts: &mut [u32; Order::MOST_TASKS],
+    worsts: &mut [Option<u32>; Order::MOST_TASKS],
 ) -> usize
-    requires { RowsFit rows.now count × Apart keys.now count × Bounds rows.now keys.now count lasts.old × (length worsts.old ≡ most_tasks) × (get_or worsts.old lowest 0 ≡ 0) }
+    requires { RowsFit rows.now count × Apart keys.now count × Bounds rows.now keys.now count lasts.old × (length worsts.old ≡ most_tasks) × (worst_at worsts.old lowest ≡ None) }
     ensures { TestedRanks rows.now keys.now count count lowest lasts.old worsts.old result lasts.new worsts.new }
 {
     let mut failing = lowest;
-    let mut rank: usize = 0;
-    while rank < count {
+    for rank in 0..count {
         let tested = test_below(rows, keys, count, rank, failing, lasts);
         let number = roster::number_in(keys[rank]);
         lasts[number] = tested.last;
         worsts[number] = tested.worst;
         failing = lowered(failing, number, tested.worst);
-        rank += 1;
     }
     failing
 }
 
 // The partition that begins at a place of the line.
 fn test_part(
-    table: &[u32; ROWS],
+    table: &Rows,
     keys: &[u32; Order::MOST_TASKS],
     tasks: usize,
     first: usize,
     lowest: usize,
     lasts: &mut [u32; Order::MOST_TASKS],
-    worsts: &mut [u32; Order::MOST_TASKS],
+    worsts: &mut [Option<u32>; Order::MOST_TASKS],
 ) -> TestedPart
     requires { (first < tasks) × SomeLineup table.now keys.now tasks × TestedBefore table.now keys.now tasks first lowest lasts.old worsts.old }
     ensures { (0 < result.size) × TestedBefore table.now keys.now tasks (first + result.size) result.lowest lasts.new worsts.new }
 {
     let mut own = [0u32; Order::MOST_TASKS];
-    let mut rows = [0u32; ROWS];
+    let mut rows = Rows::zero();
     let size = roster::members_of(keys, tasks, first, roster::home_in(keys[first]), &mut own);
     roster::fill_rows(table, &own, size, &mut rows);
     let failing = test_members(&rows, &own, size, lowest, lasts, worsts);
@@ -126,11 +116,11 @@ fn test_part(
 }
 
 // Partition by partition.
-fn test_all(table: &[u32; ROWS], keys: &[u32; Order::MOST_TASKS], tasks: usize) -> Results
+fn test_all(table: &Rows, keys: &[u32; Order::MOST_TASKS], tasks: usize) -> Results
     requires { SomeLineup table.now keys.now tasks }
     ensures { ResultsFor table.now keys.now tasks result }
 {
-    let mut worsts = [0u32; Order::MOST_TASKS];
+    let mut worsts = [None; Order::MOST_TASKS];
     let mut lasts = [0u32; Order::MOST_TASKS];
     let mut lowest = Order::MOST_TASKS;
     let mut first: usize = 0;
@@ -147,19 +137,17 @@ fn first_of(keys: &[u32; Order::MOST_TASKS], tasks: usize, home: u32) -> usize
     requires { tasks ≤ most_tasks }
     ensures { result ≡ run_from (λ s. ltb (home_in (key_at keys.now s)) home) 0 tasks }
 {
-    let mut first: usize = 0;
-    while first < tasks {
+    for first in 0..tasks {
         if home <= roster::home_in(keys[first]) {
             return first;
         }
-        first += 1;
     }
-    first
+    tasks
 }
 
 // Whether the window of a task is there.
 fn window_there(
-    table: &[u32; ROWS],
+    table: &Rows,
     keys: &[u32; Order::MOST_TASKS],
     tasks: usize,
     member: Member,
@@ -169,7 +157,7 @@ fn window_there(
     ensures { TellsWindow table.now keys.now tasks member last result }
 {
     let mut own = [0u32; Order::MOST_TASKS];
-    let mut rows = [0u32; ROWS];
+    let mut rows = Rows::zero();
     let first = first_of(keys, tasks, member.partition);
     let size = roster::members_of(keys, tasks, first, member.partition, &mut own);
     roster::fill_rows(table, &own, size, &mut rows);
@@ -180,48 +168,40 @@ fn window_there(
 
 // The first task that does not pass or whose recorded response differs.
 fn first_wrong(
-    members: [Member; Order::MOST_TASKS],
-    worsts: [u32; Order::MOST_TASKS],
+    members: &[Member; Order::MOST_TASKS],
+    worsts: &[Option<u32>; Order::MOST_TASKS],
     tasks: usize,
-) -> usize
+) -> Option<usize>
     requires { tasks ≤ most_tasks }
-    ensures { result ≡ run_from (right_response members worsts) 0 tasks }
+    ensures { FirstWrong members.now worsts.now tasks result }
 {
-    let mut i: usize = 0;
-    while i < tasks {
-        let member = members[i];
-        let worst = worsts[i];
-        if worst == 0 {
-            return i;
+    for i in 0..tasks {
+        if worsts[i] != Some(members[i].response) {
+            return Some(i);
         }
-        if member.response != worst {
-            return i;
-        }
-        i += 1;
     }
-    i
+    None
 }
 
 // Task by task 27 to 30; 28 never comes, since a window gives every start.
-pub fn judge_tests(order: Order, build: Build, keys: [u32; Order::MOST_TASKS]) -> Result<u32, Refusal>
+pub fn judge_tests(
+    order: Order,
+    build: Build,
+    keys: [u32; Order::MOST_TASKS],
+) -> Result<(), Refusal>
     requires { WithinLimits order × LineOf order build keys × RanksRecorded order build }
-    ensures { result ≡ first_broken 0 (test_rules order build) }
+    ensures { result ≡ given tt (first_broken 0 (test_rules order build)) }
 {
-    let members = build.members;
     let tasks = order.tasks as usize;
     let table = roster::row_table(order);
     let results = test_all(&table, &keys, tasks);
-    let worsts = results.worsts;
-    let lasts = results.lasts;
-    let i = first_wrong(members, worsts, tasks);
-    if i == tasks {
-        return Ok(0);
-    }
-    if 0 < worsts[i] {
+    let Some(i) = first_wrong(&build.members, &results.worsts, tasks) else {
+        return Ok(());
+    };
+    if results.worsts[i].is_some() {
         return Err(Refusal::OfBuild(BuildCause::Response(i as u16)));
     }
-    let member = members[i];
-    if window_there(&table, &keys, tasks, member, lasts[i]) {
+    if window_there(&table, &keys, tasks, build.members[i], results.lasts[i]) {
         return Err(Refusal::OfBuild(BuildCause::Late(i as u16)));
     }
     Err(Refusal::OfBuild(BuildCause::Window(i as u16)))

@@ -14,15 +14,16 @@ use Rattle.model.specs.Rules.{WithinLimits}
 use Rattle.demand.specs.Releases.{work_by}
 use Rattle.demand.specs.Test.{higher_work}
 use Rattle.demand.proofs.Demands.{sized_of}
-use Rattle.asked.specs.Rows.{word_at, row_task, RowsFit, asked_by}
+use Rattle.asked.specs.Rows.{row_at, row_task, RowsFit, asked_by}
 use Rattle.roster.specs.Keys.{number_at}
 use Rattle.roster.specs.Rows.{RowOf, RowsByNumber, RowsInLine}
 use Rattle.roster.proofs.Rowing.{row_alike}
 use Rattle.roster.proofs.Tied.{row_work, row_share, row_sized}
 use Rattle.late_find.specs.Found.{KeysByNumber, HigherNumbers, besides}
 use Rattle.late_find.proofs.Above.{above-higher}
+use Rattle.asked.specs.declared.rows.Rows.{Rows}
 
-module _ (o : Order) (b : Build) (limits : WithinLimits o) (i : ℕ) (mine : i < o.tasks) (keys table numbers rows : List ℕ) (count : ℕ)
+module _ (o : Order) (b : Build) (limits : WithinLimits o) (i : ℕ) (mine : i < o.tasks) (keys : List ℕ) (table : Rows) (numbers : List ℕ) (rows : Rows) (count : ℕ)
     (keyed : KeysByNumber o b o.tasks keys) (by_number : RowsByNumber o o.tasks table) (are : HigherNumbers keys o.tasks i numbers count) (filled : RowsInLine table numbers count rows) where
   -- a number below 32 is its own
   own_number : (r : ℕ) → r < count → number_at numbers r ≡ get_or numbers r 0
@@ -31,7 +32,7 @@ module _ (o : Order) (b : Build) (limits : WithinLimits o) (i : ℕ) (mine : i <
   row_of : (r : ℕ) → r < count → RowOf rows r (task_of o (get_or numbers r 0))
   row_of r l =
       row_alike table rows (get_or numbers r 0) r (task_of o (get_or numbers r 0))
-      (λ kind few. filled.each r kind l few ∙ ap (λ (x : ℕ). word_at table x kind) (own_number r l))
+      (filled.each r l ∙ ap (row_at table) (own_number r l))
       (by_number.each (get_or numbers r 0) (are.within r l))
 
   pub higher_fit : RowsFit rows count

@@ -11,8 +11,9 @@ use Rattle.asked.specs.Rows.{cost_at}
 use Rattle.roster.specs.Keys.{key_at}
 use Rattle.late_find.specs.declared.Longest.{Longest}
 use Rattle.late_find.specs.Found.{above, LongestBelow}
+use Rattle.asked.specs.declared.rows.Rows.{Rows}
 
-module _ (table keys : List ℕ) (named : ℕ) where
+module _ (table : Rows) (keys : List ℕ) (named : ℕ) where
   abbrev below : ℕ → Bool
   below j = above (key_at keys named) (key_at keys j)
 

@@ -26,12 +26,13 @@ use Rattle.critical.specs.Pattern.{longest_lower, is_at, blocks, begin}
 use Rattle.late_find.specs.declared.Longest.{Longest}
 use Rattle.late_find.specs.Found.{KeysByNumber, above, LongestBelow, besides}
 use Rattle.late_find.proofs.Above.{above_lower}
+use Rattle.asked.specs.declared.rows.Rows.{Rows}
 
 -- the order of two tests does not matter
 and_turned : (a b : Bool) → (a && b) ≡ (b && a)
 and_turned a b = same_test (a && b) (b && a) (λ both. (let two = and_both a b both in both_and b a two.1 two.0)) (λ both. (let two = and_both b a both in both_and a b two.1 two.0))
 
-module _ (o : Order) (b : Build) (limits : WithinLimits o) (i : ℕ) (mine : i < o.tasks) (keys table : List ℕ) (r : Longest)
+module _ (o : Order) (b : Build) (limits : WithinLimits o) (i : ℕ) (mine : i < o.tasks) (keys : List ℕ) (table : Rows) (r : Longest)
     (keyed : KeysByNumber o b o.tasks keys) (by_number : RowsByNumber o o.tasks table) (is : LongestBelow table keys o.tasks i r) where
   abbrev B : ℕ
   B = blocking o (besides b i) i

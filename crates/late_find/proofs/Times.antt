@@ -30,6 +30,7 @@ use Rattle.late_find.specs.Found.{KeysByNumber, LongestBelow, FirstLateOver, com
 use Rattle.late_find.proofs.Above.{above-higher}
 use Rattle.late_find.proofs.Blocker.{begin_is, blocks_is, blocks-lower}
 use Rattle.late_find.proofs.Named.{late_early, late_job_is, late_start_is}
+use Rattle.asked.specs.declared.rows.Rows.{Rows}
 
 -- when a task comes that is the named one itself, a higher member, or the blocker
 module _ (from last start : ℕ) (soon : from ≤ 1) where
@@ -57,7 +58,7 @@ module _ (from last start : ℕ) (soon : from ≤ 1) where
   timed_fits a b c d false false true = (λ l. omega arith, omega arith)
   timed_fits a b c d false false false = (λ l. absurd (omega (arith, l)), omega arith)
 
-module _ (o : Order) (b : Build) (i : ℕ) (named : NamedLate o b i) (keys table : List ℕ) (longest : Longest)
+module _ (o : Order) (b : Build) (i : ℕ) (named : NamedLate o b i) (keys : List ℕ) (table : Rows) (longest : Longest)
     (keyed : KeysByNumber o b o.tasks keys) (by_number : RowsByNumber o o.tasks table) (is : LongestBelow table keys o.tasks i longest)
     (q w : ℕ) (first : FirstLateOver (higher_work o (besides b i) i) (blocking o (besides b i) i) (task_of o i) q w) where
   abbrev member : Members

@@ -23,6 +23,7 @@ use Rattle.critical.specs.Late.{late_job, late_start}
 use Rattle.late_find.specs.declared.Longest.{Longest}
 use Rattle.late_find.specs.declared.Late.{Late}
 use Rattle.late_find.specs.declared.Coming.{Coming}
+use Rattle.asked.specs.declared.rows.Rows.{Rows}
 
 -- each of the first so many tasks has its key at its number
 pub record KeysByNumber (o : Order) (b : Build) (tasks : ℕ) (keys : List ℕ) : Type 0 where
@@ -34,7 +35,7 @@ abbrev pub above : (one other : ℕ) → Bool
 above one other = pick (eqb (home_in one) (home_in other)) (ltb one other) false
 
 -- the largest cost among the members below the named one, and the lowest number of a task that has it
-pub record LongestBelow (table keys : List ℕ) (tasks named : ℕ) (r : Longest) : Type 0 where
+pub record LongestBelow (table : Rows) (keys : List ℕ) (tasks named : ℕ) (r : Longest) : Type 0 where
   pub cost_is : r.cost ≡ largest (λ j. only (above (key_at keys named) (key_at keys j)) (cost_at table j)) tasks
   pub its_cost : 0 < r.cost → (r.number < tasks) × (above (key_at keys named) (key_at keys r.number) ≡ true) × (cost_at table r.number ≡ r.cost)
   pub lowest : (j : ℕ) → j < r.number → above (key_at keys named) (key_at keys j) ≡ true → cost_at table j < r.cost

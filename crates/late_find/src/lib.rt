@@ -10,7 +10,7 @@ ghost use Rattle.asked.specs.Rows.{RowsFit, asked_by};
 ghost use Rattle.inspect_members.specs.Line.{HomesFew};
 ghost use Rattle.late_find.specs.Found.{KeysByNumber, above, LongestBelow, HigherNumbers, StartsFrom, LateOver, FirstLateOver, coming_by, TimedBy, NamedLate, LateTimes};
 
-use asked::{COST, ROWS};
+use asked::Rows;
 use comings_out::{NEVER, Times};
 use model::{Build, Order, Task};
 
@@ -77,7 +77,7 @@ fn is_above(one: u32, other: u32) -> bool
 
 // The lower member with the largest C, lowest number among equals.
 fn longest_below(
-    table: &[u32; ROWS],
+    table: &Rows,
     keys: &[u32; Order::MOST_TASKS],
     tasks: usize,
     named: usize,
@@ -89,10 +89,10 @@ fn longest_below(
     let mut i: usize = 0;
     while i < tasks {
         if is_above(keys[named], keys[i]) {
-            if longest.cost < table[COST + i] {
+            if longest.cost < table.costs[i] {
                 longest = Longest {
                     number: i,
-                    cost: table[COST + i],
+                    cost: table.costs[i],
                 };
             }
         }
@@ -124,20 +124,20 @@ fn higher_of(
 }
 
 // Where a search that found nothing by a tick goes on to the start.
-fn start_from(rows: &[u32; ROWS], count: usize, base: u32, from: u32) -> u32
+fn start_from(rows: &Rows, count: usize, base: u32, from: u32) -> u32
     requires { RowsFit rows.now count × (base ≤ 3_000_000) × (from ≤ 2_000_000) × StartsFrom (asked_by rows.now count) base from }
     ensures { FirstMetAt (start_over (asked_by rows.now count) base) 0 result }
 {
     let search = asked::met(rows, count, model::wide(base) + 1, from, Task::HORIZON);
     let found = search.found;
     match found {
-        Some(start) => start as u32,
+        Some(start) => start,
         None => 0,
     }
 }
 
 // Job by job, each search from the end of the job before it, up to the first that is late.
-fn late_job(rows: &[u32; ROWS], count: usize, blocking: u32, task: Task) -> LateJob
+fn late_job(rows: &Rows, count: usize, blocking: u32, task: Task) -> LateJob
     requires { RowsFit rows.now count × (blocking ≤ 1_000_000) × Sized task × LateOver (asked_by rows.now count) blocking task }
     ensures { FirstLateOver (asked_by rows.now count) blocking task result.number result.start }
 {
@@ -155,7 +155,7 @@ fn late_job(rows: &[u32; ROWS], count: usize, blocking: u32, task: Task) -> Late
                 start: start_from(rows, count, base, due + 1),
             };
         };
-        from = start as u32 + task.cost();
+        from = start + task.cost();
         base = base + task.cost();
         release = release + task.period;
         number += 1;
@@ -222,7 +222,7 @@ pub fn late_times(order: Order, build: Build, named: usize) -> Times
     let longest = longest_below(&by_number, &keys, tasks, named);
     let blocking = longest.cost - model::smaller(longest.cost, 1);
     let mut numbers = [0u32; Order::MOST_TASKS];
-    let mut rows = [0u32; ROWS];
+    let mut rows = Rows::zero();
     let count = higher_of(&keys, tasks, named, &mut numbers);
     roster::fill_rows(&by_number, &numbers, count, &mut rows);
     let job = late_job(&rows, count, blocking, task);

@@ -40,6 +40,8 @@ use Rattle.fitting.specs.Steps.{living_in, accepts}
 use Rattle.fitting.proofs.Put.{unplaced_says, living_says, says_living, says_away, living_same, put_here, put_other, put-unplaced, living_kept}
 use Rattle.fitting.proofs.Accepts.{members_say, say_members}
 use Rattle.placing.specs.Known.{OpenUntil, Known, InLine}
+use Rattle.roster.proofs.Rowing.{row_alike}
+use Rattle.asked.specs.declared.rows.Rows.{Rows}
 
 not-false : (b : Bool) → not b ≡ true → b ≡ false
 not-false true e = clash e
@@ -105,7 +107,7 @@ module _ (o : Order) (limits : WithinLimits o) (homes : List ℕ) (places : leng
 
   -- the line of those who lived there, by the new numbers
   module _ (keys : List ℕ) (placed first : ℕ) (line : InLine o homes keys placed) (from : PartFrom keys placed first k)
-      (own own' rows table : List ℕ)
+      (own own' : List ℕ) (rows table : Rows)
       (copied : (r : ℕ) → r < part_size keys placed first k → key_at own r ≡ key_at keys (first + r))
       (put : (r : ℕ) → r < part_size keys placed first k + 1 → key_at own' r ≡ with_key (key_of k (deadline_of o task) task) own (part_size keys placed first k) r)
       (small : part_size keys placed first k < 32)
@@ -153,13 +155,7 @@ module _ (o : Order) (limits : WithinLimits o) (homes : List ℕ) (places : leng
     pub rows_are : RowsOf o (number_at own') count rows
     rows_are r l =
         let i = number_at own' r in
-        let of_task = by_number.each i (line_now.within r l) in
-        record {
-          period = filled.each r 0 l (omega arith) ∙ of_task.period;
-          cost_is = filled.each r 1 l (omega arith) ∙ of_task.cost_is;
-          share = filled.each r 2 l (omega arith) ∙ of_task.share;
-          deadline = filled.each r 3 l (omega arith) ∙ of_task.deadline;
-        }
+        row_alike table rows i r (task_of o i) (filled.each r l) (by_number.each i (line_now.within r l))
 
     few_rows : count ≤ most_tasks
     few_rows = omega arith

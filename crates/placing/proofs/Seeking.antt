@@ -9,15 +9,16 @@ use native.Mathlib.Omega.{arith}
 use lib.ListN.{set}
 use Rattle.search.proofs.First.{first_found, first_missing}
 use Rattle.demand.proofs.Largest.{at_one}
-use Rattle.asked.specs.Rows.{word_at}
+use Rattle.asked.specs.Rows.{deadline_at}
 use Rattle.roster.specs.Keys.{key_of}
 use Rattle.roster.specs.Lined.{PartFrom}
 use Rattle.roster.proofs.Lining.{part_next}
 use Rattle.turns.specs.Turns.{home_at}
 use Rattle.fitting.specs.Steps.{accepts}
 use Rattle.placing.specs.Known.{Known, Trying, TryingIn, TriedIn, Lowest}
+use Rattle.asked.specs.declared.rows.Rows.{Rows}
 
-module _ (table keys : List ℕ) (placed : ℕ) (lasts₀ worsts₀ : List ℕ) (task : ℕ) where
+module _ (table : Rows) (keys : List ℕ) (placed : ℕ) (lasts₀ worsts₀ : List ℕ) (task : ℕ) where
   pub record Sought (lasts worsts : List ℕ) (first partition : ℕ) : Type 0 where
     pub lasts_kept : lasts ≡ lasts₀
     pub worsts_kept : worsts ≡ worsts₀
@@ -29,7 +30,7 @@ module _ (table keys : List ℕ) (placed : ℕ) (lasts₀ worsts₀ : List ℕ) 
 
   -- what is to be tried next
   abbrev pub trying_in : (first partition key : ℕ) (so : Trying table keys placed lasts₀ worsts₀ task) → PartFrom keys placed first partition → partition < 32
-      → key ≡ key_of partition (word_at table task 3) task → TryingIn table keys placed first key lasts₀ worsts₀
+      → key ≡ key_of partition (deadline_at table task) task → TryingIn table keys placed first key lasts₀ worsts₀
   trying_in first partition key so members few e =
       record {
         task = task;
@@ -40,7 +41,7 @@ module _ (table keys : List ℕ) (placed : ℕ) (lasts₀ worsts₀ : List ℕ) 
         members = members;
       }
 
-  module _ (lasts worsts : List ℕ) (first partition key : ℕ) (was : Sought lasts worsts first partition) (few : partition < 32) (e : key ≡ key_of partition (word_at table task 3) task) where
+  module _ (lasts worsts : List ℕ) (first partition key : ℕ) (was : Sought lasts worsts first partition) (few : partition < 32) (e : key ≡ key_of partition (deadline_at table task) task) where
     pub next_trying : Trying table keys placed lasts₀ worsts₀ task → TryingIn table keys placed first key lasts worsts
     next_trying so =
         subst (λ (ls : List ℕ). TryingIn table keys placed first key ls worsts) (sym was.lasts_kept)

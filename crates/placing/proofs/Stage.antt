@@ -20,8 +20,9 @@ use Rattle.roster.proofs.Runs.{run_most}
 use Rattle.fitting.specs.Steps.{accepts}
 use Rattle.placing.specs.Known.{TryingIn, TriedIn}
 use Rattle.placing.proofs.Beside.{newcomer_in, fit, before, answer_is, known_now}
+use Rattle.asked.specs.declared.rows.Rows.{Rows}
 
-module _ (table keys lasts worsts : List ℕ) (placed first key : ℕ) (so : TryingIn table keys placed first key lasts worsts) where
+module _ (table : Rows) (keys lasts worsts : List ℕ) (placed first key : ℕ) (so : TryingIn table keys placed first key lasts worsts) where
   abbrev o : Order
   o = so.trying.order
 
@@ -43,7 +44,7 @@ module _ (table keys lasts worsts : List ℕ) (placed first key : ℕ) (so : Try
   pub size_small : part_size keys placed first k < 32
   size_small = omega (arith, run_most (lives_in k keys) first (placed - first), so.trying.room)
 
-  module _ (size newcomer : ℕ) (own₀ own₁ own₂ rows : List ℕ) (counted : size ≡ part_size keys placed first k)
+  module _ (size newcomer : ℕ) (own₀ own₁ own₂ : List ℕ) (rows : Rows) (counted : size ≡ part_size keys placed first k)
       (copied : own₁ ≡ overlaid (λ r. get_or keys (first + r) 0) size own₀) (spot : newcomer ≡ spot_for key own₁ size)
       (put : own₂ ≡ overlaid (with_key key own₁ size) (size + 1) own₁) (filled : RowsInLine table own₂ (size + 1) rows) where
     copied' : (r : ℕ) → r < part_size keys placed first k → key_at own₁ r ≡ key_at keys (first + r)

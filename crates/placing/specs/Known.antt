@@ -13,6 +13,7 @@ use Rattle.roster.specs.Rows.{RowsByNumber}
 use Rattle.roster.specs.Lined.{Lined, PartFrom, part_size}
 use Rattle.turns.specs.Turns.{home_at, is_unplaced}
 use Rattle.fitting.specs.Steps.{living_in, accepts}
+use Rattle.asked.specs.declared.rows.Rows.{Rows}
 
 -- no window of member i closes before a tick
 abbrev pub OpenUntil : Order → Members → (i last : ℕ) → Type 0
@@ -32,7 +33,7 @@ abbrev pub InLine : Order → (homes keys : List ℕ) → (placed : ℕ) → Typ
 InLine o homes keys placed = Lined o (λ j. not (is_unplaced homes j)) (home_at homes) keys placed
 
 -- a waiting task is to be tried
-pub record Trying (table keys : List ℕ) (placed : ℕ) (lasts worsts : List ℕ) (task : ℕ) : Type 0 where
+pub record Trying (table : Rows) (keys : List ℕ) (placed : ℕ) (lasts worsts : List ℕ) (task : ℕ) : Type 0 where
   pub order : Order
   pub limits : WithinLimits order
   pub homes : List ℕ
@@ -45,7 +46,7 @@ pub record Trying (table keys : List ℕ) (placed : ℕ) (lasts worsts : List �
   pub known : Known order homes lasts worsts
 
 -- in partition k, by its key there, beside the members from a place of the line on
-pub record TryingIn (table keys : List ℕ) (placed first key : ℕ) (lasts worsts : List ℕ) : Type 0 where
+pub record TryingIn (table : Rows) (keys : List ℕ) (placed first key : ℕ) (lasts worsts : List ℕ) : Type 0 where
   pub task : ℕ
   pub partition : ℕ
   pub few : partition < 32
@@ -54,7 +55,7 @@ pub record TryingIn (table keys : List ℕ) (placed first key : ℕ) (lasts wors
   pub members : PartFrom keys placed first partition
 
 -- what comes of it
-pub record TriedIn (table keys : List ℕ) (placed first key : ℕ) (lasts worsts : List ℕ) (so : TryingIn table keys placed first key lasts worsts) (r : Result (Unit {0}) ℕ) (lasts' worsts' : List ℕ) : Type 0 where
+pub record TriedIn (table : Rows) (keys : List ℕ) (placed first key : ℕ) (lasts worsts : List ℕ) (so : TryingIn table keys placed first key lasts worsts) (r : Result (Unit {0}) ℕ) (lasts' worsts' : List ℕ) : Type 0 where
   pub takes : r ≡ Ok tt → accepts so.trying.order so.trying.homes so.task so.partition ≡ true
   pub taken : r ≡ Ok tt → Known so.trying.order (set so.trying.homes so.task so.partition) lasts' worsts'
   pub refuses : (size : ℕ) → r ≡ Err size → accepts so.trying.order so.trying.homes so.task so.partition ≡ false
@@ -62,7 +63,7 @@ pub record TriedIn (table keys : List ℕ) (placed first key : ℕ) (lasts worst
   pub members : (size : ℕ) → r ≡ Err size → size ≡ part_size keys placed first so.partition
 
 -- what comes of it where all opened partitions are tried in turn
-pub record Lowest (table keys : List ℕ) (placed : ℕ) (lasts worsts : List ℕ) (task : ℕ) (so : Trying table keys placed lasts worsts task) (opened : ℕ) (r : Option ℕ) (lasts' worsts' : List ℕ) : Type 0 where
+pub record Lowest (table : Rows) (keys : List ℕ) (placed : ℕ) (lasts worsts : List ℕ) (task : ℕ) (so : Trying table keys placed lasts worsts task) (opened : ℕ) (r : Option ℕ) (lasts' worsts' : List ℕ) : Type 0 where
   pub answer : r ≡ first_of (accepts so.order so.homes task) 0 opened
   pub taken : (k : ℕ) → r ≡ Some k → Known so.order (set so.homes task k) lasts' worsts'
   pub refused : r ≡ None → (lasts' ≡ lasts) × (worsts' ≡ worsts)

@@ -4,13 +4,13 @@
 ghost use Rattle.std.specs.Prelude.{◌≡◌, ℕ, ◌≤◌, ◌<◌};
 ghost use Rattle.placing.specs.Known.{Trying, TryingIn, TriedIn, Lowest};
 
-use asked::{DEADLINE, ROWS};
+use asked::Rows;
 use model::Order;
 
 // The task of a key among the members of its partition, who stand in line from the first on: whether all pass, else how
 // many members were there.
 fn try_partition(
-    table: &[u32; ROWS],
+    table: &Rows,
     keys: &[u32; Order::MOST_TASKS],
     placed: usize,
     first: usize,
@@ -24,7 +24,7 @@ fn try_partition(
     let mut own = [0u32; Order::MOST_TASKS];
     let size = roster::members_of(keys, placed, first, roster::home_in(key), &mut own);
     let newcomer = roster::put_in(&mut own, size, key);
-    let mut rows = [0u32; ROWS];
+    let mut rows = Rows::zero();
     roster::fill_rows(table, &own, size + 1, &mut rows);
     if trial::tries(&rows, &own, size + 1, newcomer, lasts, worsts) {
         Ok(())
@@ -35,7 +35,7 @@ fn try_partition(
 
 // The lowest-numbered of the opened partitions that takes the task.
 pub fn lowest_accepting(
-    table: &[u32; ROWS],
+    table: &Rows,
     keys: &[u32; Order::MOST_TASKS],
     placed: usize,
     task: usize,
@@ -48,7 +48,7 @@ pub fn lowest_accepting(
 {
     let mut first: usize = 0;
     for partition in 0..opened {
-        let key = roster::key_of(partition, table[DEADLINE + task], task);
+        let key = roster::key_of(partition, table.deadlines[task], task);
         match try_partition(table, keys, placed, first, key, lasts, worsts) {
             Ok(()) => return Some(partition),
             Err(members) => first += members,

@@ -1,7 +1,6 @@
 -- Rows of ranked members give what the test asks of the order itself.
 use Rattle.std.specs.Prelude.{Option}
 use mathlib.Core.Path.{◌≡◌, refl, sym, ap, ◌∙◌, fun_ext}
-use mathlib.Core.List.{List}
 use Prim.Native.Nat.{ℕ, ◌+◌, ◌-◌, ◌*◌, ◌≤◌, ◌<◌}
 use native.Mathlib.Omega.{arith}
 use Rattle.laws.proofs.Sums.{sum_same, largest_same}
@@ -15,13 +14,14 @@ use Rattle.demand.specs.Test.{first_met, response_from, largest_found, verdict_b
 use Rattle.demand.specs.Over.{start_over, window_over, response_over, verdict_over}
 use Rattle.demand.proofs.Demands.{sized_of, verdict-is_over}
 use Rattle.asked.specs.Rows.{row_task, share_of, RowsFit, asked_by, blocking_in}
-use Rattle.asked.proofs.Rows.{asked_more}
+use Rattle.asked.proofs.RowLaws.{asked_more}
 use Rattle.roster.specs.Rows.{RowOf}
 use Rattle.roster.specs.Ranked.{Ranked, RowsOf}
 use Rattle.roster.proofs.Ranks.{higher_work_lem, blocked_by}
+use Rattle.asked.specs.declared.rows.Rows.{Rows}
 
 -- the row's task asks what the task itself does
-module _ (rows : List ℕ) (r : ℕ) (task : Task) (is : RowOf rows r task) where
+module _ (rows : Rows) (r : ℕ) (task : Task) (is : RowOf rows r task) where
   row_cost : cost (row_task rows r) ≡ cost task
   unfolding cost
   row_cost = is.cost_is
@@ -66,7 +66,7 @@ module _ (rows : List ℕ) (r : ℕ) (task : Task) (is : RowOf rows r task) wher
       ∙ ap (λ (g : ℕ → ℕ). verdict_by (first_met (window_over work B task) 1) (λ L. largest_found (response_over work B task) (g L)) (row_task rows r).deadline) (fun_ext row_jobs)
       ∙ ap (verdict_by (first_met (window_over work B task) 1) (λ L. largest_found (response_over work B task) (jobs task L))) is.deadline
 
-module _ (o : Order) (limits : WithinLimits o) (member : Members) (number : ℕ → ℕ) (count : ℕ) (rows : List ℕ)
+module _ (o : Order) (limits : WithinLimits o) (member : Members) (number : ℕ → ℕ) (count : ℕ) (rows : Rows)
     (is : Ranked o member number count) (few : count ≤ most_tasks) (holds : RowsOf o number count rows) where
   pub rows_fit : RowsFit rows count
   rows_fit =

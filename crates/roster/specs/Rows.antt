@@ -1,32 +1,32 @@
 -- The rows of tasks by number, and of lined tasks by place.
-use Rattle.std.specs.Prelude.{ℕ, ◌+◌, ◌<◌, ◌≡◌, List, length, set}
+use Rattle.std.specs.Prelude.{ℕ, ◌<◌, ◌≡◌, List, length}
 use Rattle.model.specs.declared.order.Task.{Task}
 use Rattle.model.specs.declared.order.Order.{Order}
-use Rattle.model.specs.Limits.{task_of, cost}
-use Rattle.asked.specs.Rows.{word_at, share_of}
+use Rattle.model.specs.Limits.{most_tasks, task_of, cost}
+use Rattle.asked.specs.declared.rows.Rows.{Rows}
+use Rattle.asked.specs.Rows.{period_at, cost_at, share_at, deadline_at, row_at, share_of}
 use Rattle.roster.specs.Keys.{number_at}
 
--- four numbers of each of 32 tasks
-abbrev pub most_rows : ℕ
-most_rows = 128
-
--- one row written over
-abbrev pub row_put : List ℕ → (r period cost share deadline : ℕ) → List ℕ
-row_put rows r period cost share deadline = set (set (set (set rows (0 + r) period) (32 + r) cost) (64 + r) share) (96 + r) deadline
+-- a place for each of 32 tasks
+pub record RowPlaces (rows : Rows) : Type 0 where
+  pub periods : length rows.periods ≡ most_tasks
+  pub costs : length rows.costs ≡ most_tasks
+  pub shares : length rows.shares ≡ most_tasks
+  pub deadlines : length rows.deadlines ≡ most_tasks
 
 -- row i holds a task's period, cost, share and deadline
-pub record RowOf (rows : List ℕ) (i : ℕ) (task : Task) : Type 0 where
-  pub period : word_at rows i 0 ≡ task.period
-  pub cost_is : word_at rows i 1 ≡ cost task
-  pub share : word_at rows i 2 ≡ share_of task
-  pub deadline : word_at rows i 3 ≡ task.deadline
+pub record RowOf (rows : Rows) (i : ℕ) (task : Task) : Type 0 where
+  pub period : period_at rows i ≡ task.period
+  pub cost_is : cost_at rows i ≡ cost task
+  pub share : share_at rows i ≡ share_of task
+  pub deadline : deadline_at rows i ≡ task.deadline
 
 -- each of the first n tasks of an order has its row
-pub record RowsByNumber (o : Order) (n : ℕ) (rows : List ℕ) : Type 0 where
-  pub places : length rows ≡ most_rows
+pub record RowsByNumber (o : Order) (n : ℕ) (rows : Rows) : Type 0 where
+  pub places : RowPlaces rows
   pub each : (i : ℕ) → i < n → RowOf rows i (task_of o i)
 
 -- each of the lined tasks has its row, copied from a table by number
-pub record RowsInLine (table keys : List ℕ) (count : ℕ) (rows : List ℕ) : Type 0 where
-  pub places : length rows ≡ most_rows
-  pub each : (r kind : ℕ) → r < count → kind < 4 → word_at rows r kind ≡ word_at table (number_at keys r) kind
+pub record RowsInLine (table : Rows) (keys : List ℕ) (count : ℕ) (rows : Rows) : Type 0 where
+  pub places : RowPlaces rows
+  pub each : (r : ℕ) → r < count → row_at rows r ≡ row_at table (number_at keys r)

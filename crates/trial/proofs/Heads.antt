@@ -1,6 +1,5 @@
 -- Where a member's search may begin: what a higher member's window leaves open.
 use mathlib.Core.Path.{◌≡◌, ap, ◌∙◌}
-use mathlib.Core.List.{List}
 use Prim.Native.Nat.{ℕ, suc, ◌+◌, ◌-◌, ◌*◌, ◌/◌, ◌≤◌, ◌<◌}
 use native.Mathlib.Decide.{dec_lt, ℕ_discrete}
 use native.Mathlib.Nat.{add-zero, add-mul, one-mul}
@@ -13,13 +12,14 @@ use Rattle.model.specs.Limits.{cost}
 use Rattle.demand.specs.Releases.{releases_by, work_by}
 use Rattle.asked.specs.Rows.{cost_at, row_task, RowsFit, asked_by, blocking_in}
 use Rattle.asked.specs.Met.{UnmetBelow}
-use Rattle.asked.proofs.Rows.{cost_most, asked_more}
+use Rattle.asked.proofs.RowLaws.{cost_most, asked_more}
+use Rattle.asked.specs.declared.rows.Rows.{Rows}
 
 -- the costs of the members from a rank to before another
-abbrev pub between : List ℕ → (g rank : ℕ) → ℕ
+abbrev pub between : Rows → (g rank : ℕ) → ℕ
 between rows g rank = sum (λ s. cost_at rows (g + s)) (rank - g)
 
-module _ (rows : List ℕ) (count : ℕ) (fit : RowsFit rows count) where
+module _ (rows : Rows) (count : ℕ) (fit : RowsFit rows count) where
   -- each asks its cost at once
   once : (r w : ℕ) → cost_at rows r ≤ work_by (row_task rows r) w
   unfolding work_by releases_by cost
@@ -74,28 +74,28 @@ module _ (rows : List ℕ) (count : ℕ) (fit : RowsFit rows count) where
   taken_over rank last some inside unmet s l = omega (arith, unmet s l, blocks_more rank some inside, asked_more rows rank s, once rank s)
 
 -- one member more between
-pub between_none : (rows : List ℕ) (rank : ℕ) → between rows rank rank ≡ 0
+pub between_none : (rows : Rows) (rank : ℕ) → between rows rank rank ≡ 0
 between_none rows rank = ap (sum (λ s. cost_at rows (rank + s))) (omega arith) ∙ sum_none (λ s. cost_at rows (rank + s))
 
-pub between_more : (rows : List ℕ) (g rank : ℕ) → 0 < g → g ≤ rank → between rows (g - 1) rank ≡ cost_at rows (g - 1) + between rows g rank
+pub between_more : (rows : Rows) (g rank : ℕ) → 0 < g → g ≤ rank → between rows (g - 1) rank ≡ cost_at rows (g - 1) + between rows g rank
 between_more rows g rank some le =
     let e : rank - (g - 1) ≡ suc (rank - g) = omega arith in
     ap (sum (λ s. cost_at rows (g - 1 + s))) e ∙ sum_first (λ s. cost_at rows (g - 1 + s)) (rank - g)
     ∙ omega (arith, ap (cost_at rows) (add-zero (g - 1)), sum_same (λ s. cost_at rows (g - 1 + suc s)) (λ s. cost_at rows (g + s)) (rank - g) (λ s l. ap (cost_at rows) (omega arith)))
 
-pub each_cost : (rows : List ℕ) (count : ℕ) → RowsFit rows count → (r : ℕ) → r < count → cost_at rows r ≤ 1_000_000
+pub each_cost : (rows : Rows) (count : ℕ) → RowsFit rows count → (r : ℕ) → r < count → cost_at rows r ≤ 1_000_000
 unfolding cost
 each_cost rows count fit r l = cost_most rows count fit r l
 
-pub some_cost : (rows : List ℕ) (count : ℕ) → RowsFit rows count → (r : ℕ) → r < count → 0 < cost_at rows r
+pub some_cost : (rows : Rows) (count : ℕ) → RowsFit rows count → (r : ℕ) → r < count → 0 < cost_at rows r
 unfolding cost
 some_cost rows count fit r l = omega (arith, (fit.each r l).cost-least)
 
-pub between_most : (rows : List ℕ) (count : ℕ) → RowsFit rows count → (g rank : ℕ) → rank ≤ count → between rows g rank ≤ (rank - g) * 1_000_000
+pub between_most : (rows : Rows) (count : ℕ) → RowsFit rows count → (g rank : ℕ) → rank ≤ count → between rows g rank ≤ (rank - g) * 1_000_000
 unfolding cost
 between_most rows count fit g rank le = sum_most (λ s. cost_at rows (g + s)) 1_000_000 (rank - g) (λ s l. cost_most rows count fit (g + s) (omega arith))
 
-pub blocking_in_most : (rows : List ℕ) (count : ℕ) → RowsFit rows count → (rank : ℕ) → blocking_in rows count rank ≤ 1_000_000
+pub blocking_in_most : (rows : Rows) (count : ℕ) → RowsFit rows count → (rank : ℕ) → blocking_in rows count rank ≤ 1_000_000
 unfolding blocking_in cost
 blocking_in_most rows count fit rank =
     omega (arith, largest_le (λ s. cost_at rows (rank + 1 + s)) (count - (rank + 1)) 1_000_000 (λ s l. cost_most rows count fit (rank + 1 + s) (omega arith)))

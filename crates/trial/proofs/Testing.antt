@@ -1,5 +1,5 @@
 -- What is known of members, rank by rank, while they are tested.
-use Rattle.std.specs.Prelude.{Ok, Err}
+use Rattle.std.specs.Prelude.{Some, None, Ok, Err}
 use mathlib.Core.Path.{◌≡◌, refl, sym, ap, ◌∙◌, subst}
 use mathlib.Core.Bool.{Bool, true, false}
 use mathlib.Core.List.{List}
@@ -19,8 +19,10 @@ use Rattle.asked.specs.Rows.{asked_by, blocking_in}
 use Rattle.asked.specs.Met.{UnmetBelow}
 use Rattle.verdict.specs.declared.Tested.{Tested}
 use Rattle.verdict.specs.Tested.{TestedAs}
+use Rattle.verdict.proofs.Told.{passes_told, response_told, fails_told}
 use Rattle.roster.specs.Keys.{number_at}
 use Rattle.trial.specs.Known.{of_rank, Apart, Bounds, passes_at, verdict_at, OnlyRanks, TestedFrom}
+use Rattle.asked.specs.declared.rows.Rows.{Rows}
 
 pub passes_is : (v : Verdict) → does_pass v ≡ true → v ≡ Ok (response_of v)
 passes_is (Ok worst) p = refl
@@ -50,7 +52,7 @@ pub rank_kept : (keys : List ℕ) (count from to : ℕ) (before after : List ℕ
 rank_kept keys count from to before after apart le same s l outside =
     same (number_at keys s) (λ r f t e. outside r f t (apart r s (omega arith) l e))
 
-pub bounds_put : (rows keys : List ℕ) (count : ℕ) (lasts : List ℕ) (r last : ℕ) → Apart keys count → r < count → last ≤ 2_000_000 →
+pub bounds_put : (rows : Rows) (keys : List ℕ) (count : ℕ) (lasts : List ℕ) (r last : ℕ) → Apart keys count → r < count → last ≤ 2_000_000 →
     UnmetBelow (asked_by rows (r + 1)) (blocking_in rows count r) last → Bounds rows keys count lasts → Bounds rows keys count (set lasts (number_at keys r) last)
 bounds_put rows keys count lasts r last apart inside near unmet known =
     record {
@@ -69,7 +71,7 @@ bounds_put rows keys count lasts r last apart inside near unmet known =
     own s same = subst (λ (x : ℕ). UnmetBelow (asked_by rows (x + 1)) (blocking_in rows count x) (of_rank keys (set lasts (number_at keys r) last) x)) (sym same)
         (λ w k. unmet w (omega (arith, k, put_own keys lasts r last known.places)))
 
-module _ (rows keys : List ℕ) (count from : ℕ) (apart : Apart keys count) (lasts₀ worsts₀ : List ℕ) where
+module _ (rows : Rows) (keys : List ℕ) (count from : ℕ) (apart : Apart keys count) (lasts₀ worsts₀ : List ℕ) where
   pub tested_none : Bounds rows keys count lasts₀ → length worsts₀ ≡ most_tasks → TestedFrom rows keys count from from lasts₀ worsts₀ true lasts₀ worsts₀
   tested_none known places =
       let none : from - from ≡ 0 = omega arith in
@@ -84,33 +86,33 @@ module _ (rows keys : List ℕ) (count from : ℕ) (apart : Apart keys count) (l
 
   module _ (rank : ℕ) (lasts worsts : List ℕ) (le : from ≤ rank) (inside : rank < count) (known : TestedFrom rows keys count from rank lasts₀ worsts₀ true lasts worsts)
       (t : Tested) (is : TestedAs rows rank (blocking_in rows count rank) t) where
-    pub tested_more : t.passes ≡ true →
-        TestedFrom rows keys count from (rank + 1) lasts₀ worsts₀ true (set lasts (number_at keys rank) t.last) (set worsts (number_at keys rank) t.worst)
-    tested_more p =
+    pub tested_more : (worst : ℕ) → t.worst ≡ Some worst →
+        TestedFrom rows keys count from (rank + 1) lasts₀ worsts₀ true (set lasts (number_at keys rank) t.last) (set worsts (number_at keys rank) worst)
+    tested_more worst p =
         let f : ℕ → Bool = λ x. passes_at rows count (from + x) in
         let more : rank + 1 - from ≡ rank - from + 1 = omega arith in
         let here : from + (rank - from) ≡ rank = omega arith in
         record {
-          all_pass = sym (ap (every f) more ∙ every_more f (rank - from) (sym known.all_pass) (ap (passes_at rows count) here ∙ sym is.passes ∙ p));
+          all_pass = sym (ap (every f) more ∙ every_more f (rank - from) (sym known.all_pass) (ap (passes_at rows count) here ∙ passes_told (verdict_at rows count rank) worst (sym is.worst ∙ p)));
           bounds = bounds_put rows keys count lasts rank t.last apart inside is.near is.unmet known.bounds;
-          places = length-set worsts (number_at keys rank) t.worst ∙ known.places;
+          places = length-set worsts (number_at keys rank) worst ∙ known.places;
           responses = λ q r a b. elim (ℕ_discrete r rank) [
             | yes same ↦ own r same
-            | no other ↦ put_others keys worsts rank t.worst count r apart inside (omega (arith, inside, b, other)) other ∙ known.responses refl r a (omega (arith, b, other))
+            | no other ↦ put_others keys worsts rank worst count r apart inside (omega (arith, inside, b, other)) other ∙ known.responses refl r a (omega (arith, b, other))
           ];
           other_lasts = only-put keys lasts rank t.last from lasts₀ le known.other_lasts;
-          other_worsts = only-put keys worsts rank t.worst from worsts₀ le known.other_worsts;
+          other_worsts = only-put keys worsts rank worst from worsts₀ le known.other_worsts;
         }
       where
-        own : (r : ℕ) → r ≡ rank → of_rank keys (set worsts (number_at keys rank) t.worst) r ≡ response_of (verdict_at rows count r)
-        own r same = ap (of_rank keys (set worsts (number_at keys rank) t.worst)) same ∙ put_own keys worsts rank t.worst known.places ∙ is.worst ∙ ap (λ (x : ℕ). response_of (verdict_at rows count x)) (sym same)
+        own : (r : ℕ) → r ≡ rank → of_rank keys (set worsts (number_at keys rank) worst) r ≡ response_of (verdict_at rows count r)
+        own r same = ap (of_rank keys (set worsts (number_at keys rank) worst)) same ∙ put_own keys worsts rank worst known.places ∙ response_told (verdict_at rows count rank) worst (sym is.worst ∙ p) ∙ ap (λ (x : ℕ). response_of (verdict_at rows count x)) (sym same)
 
-    pub tested_stops : (to : ℕ) → rank < to → t.passes ≡ false → TestedFrom rows keys count from to lasts₀ worsts₀ false lasts worsts
+    pub tested_stops : (to : ℕ) → rank < to → t.worst ≡ None → TestedFrom rows keys count from to lasts₀ worsts₀ false lasts worsts
     tested_stops to before p =
         let f : ℕ → Bool = λ x. passes_at rows count (from + x) in
         let here : from + (rank - from) ≡ rank = omega arith in
         record {
-          all_pass = sym (every_stop f (to - from) (rank - from) (omega (arith, le, before)) (ap (passes_at rows count) here ∙ sym is.passes ∙ p));
+          all_pass = sym (every_stop f (to - from) (rank - from) (omega (arith, le, before)) (ap (passes_at rows count) here ∙ fails_told (verdict_at rows count rank) (sym is.worst ∙ p)));
           bounds = known.bounds;
           places = known.places;
           responses = λ q. clash q;

@@ -1,5 +1,5 @@
 -- A newcomer tried: one that fails is enough; and where all are tested or stand, all is known.
-use Rattle.std.specs.Prelude.{Ok}
+use Rattle.std.specs.Prelude.{Some, None, Ok}
 use mathlib.Core.Path.{◌≡◌, refl, sym, ap, ◌∙◌, subst}
 use mathlib.Core.Bool.{Bool, true, false}
 use mathlib.Core.List.{List}
@@ -18,9 +18,11 @@ use Rattle.asked.specs.Lines.{line_in}
 use Rattle.verdict.specs.declared.Tested.{Tested}
 use Rattle.verdict.specs.Tested.{TestedAs}
 use Rattle.verdict.proofs.Full.{overfull_open, unmet_fails}
+use Rattle.verdict.proofs.Told.{passes_told, response_told, fails_told}
 use Rattle.roster.specs.Keys.{number_at}
 use Rattle.trial.specs.Known.{of_rank, Bounds, passes_at, verdict_at, OnlyRanks, TestedFrom, Shielded, OthersTested, KnownBefore, TriedAs}
 use Rattle.trial.proofs.Testing.{passes_is, put_own, put_others, rank_kept, bounds_put}
+use Rattle.asked.specs.declared.rows.Rows.{Rows}
 
 -- one that fails among some is enough
 pub every-part : (passes : ℕ → Bool) (n from k : ℕ) → from + k ≤ n → every (λ x. passes (from + x)) k ≡ false → every passes n ≡ false
@@ -30,21 +32,21 @@ every-part passes n from k le fails = go (every passes n) refl
     go true p = clash (sym fails ∙ every_all (λ x. passes (from + x)) k (λ x l. every_at passes n p (from + x) (omega arith)))
     go false p = p
 
-pub refused_as : (rows keys : List ℕ) (count : ℕ) (lasts worsts : List ℕ) → every (passes_at rows count) count ≡ false → TriedAs rows keys count lasts worsts false lasts worsts
+pub refused_as : (rows : Rows) (keys : List ℕ) (count : ℕ) (lasts worsts : List ℕ) → every (passes_at rows count) count ≡ false → TriedAs rows keys count lasts worsts false lasts worsts
 refused_as rows keys count lasts worsts fails = record { all_pass = sym fails; taken = λ p. clash p; refused = λ p. (refl, refl) }
 
 -- where all ask for more than there is, the lowest fails
-pub overfull_fails : (rows : List ℕ) (count : ℕ) → RowsFit rows count → 0 < count → whole < (line_in rows count 0 1_000_000).slope + min 0 1 → every (passes_at rows count) count ≡ false
+pub overfull_fails : (rows : Rows) (count : ℕ) → RowsFit rows count → 0 < count → whole < (line_in rows count 0 1_000_000).slope + min 0 1 → every (passes_at rows count) count ≡ false
 overfull_fails rows count fit some over =
     let lowest = count - 1 in
     let same : lowest + 1 ≡ count = omega (arith, some) in
     let fit_same = subst (RowsFit rows) (sym same) fit in
     let blocked = blocking_in rows count lowest in
     let more : whole < (line_in rows (lowest + 1) 0 1_000_000).slope + min blocked 1 = omega (arith, over, ap (λ (n : ℕ). (line_in rows n 0 1_000_000).slope) same) in
-    every_stop (passes_at rows count) count lowest (omega (arith, some)) (unmet_fails rows lowest fit_same blocked (overfull_open rows lowest fit_same blocked more)).passes
+    every_stop (passes_at rows count) count lowest (omega (arith, some)) (fails_told (verdict_at rows count lowest) (unmet_fails rows lowest fit_same blocked (overfull_open rows lowest fit_same blocked more)))
 
 -- the others tested, higher and lower
-module _ (rows keys : List ℕ) (count newcomer : ℕ) (lasts worsts : List ℕ) (inside : newcomer < count) (first : ℕ) (upto : first ≤ newcomer) (shields : (h : ℕ) → h < first → Shielded rows count newcomer h)
+module _ (rows : Rows) (keys : List ℕ) (count newcomer : ℕ) (lasts worsts : List ℕ) (inside : newcomer < count) (first : ℕ) (upto : first ≤ newcomer) (shields : (h : ℕ) → h < first → Shielded rows count newcomer h)
     (p₁ : Bool) (lasts₁ worsts₁ : List ℕ) (one : TestedFrom rows keys count first newcomer lasts worsts p₁ lasts₁ worsts₁) where
   pub higher_fails : p₁ ≡ false → OthersTested rows keys count newcomer lasts worsts false lasts₁ worsts₁
   higher_fails p =
@@ -72,22 +74,24 @@ module _ (rows keys : List ℕ) (count newcomer : ℕ) (lasts worsts : List ℕ)
         lower = λ x. subst (λ (b : Bool). TestedFrom rows keys count (newcomer + 1) count lasts₁ worsts₁ b lasts₂ worsts₂) x two;
       }
 
-module _ (rows keys : List ℕ) (count newcomer : ℕ) (lasts worsts : List ℕ) (inside : newcomer < count) (known : KnownBefore rows keys count newcomer lasts worsts)
+module _ (rows : Rows) (keys : List ℕ) (count newcomer : ℕ) (lasts worsts : List ℕ) (inside : newcomer < count) (known : KnownBefore rows keys count newcomer lasts worsts)
     (t : Tested) (is : TestedAs rows newcomer (blocking_in rows count newcomer) t) where
+  pub newcomer_fails : t.worst ≡ None → TriedAs rows keys count lasts worsts false lasts worsts
+  newcomer_fails p = refused_as rows keys count lasts worsts (every_stop (passes_at rows count) count newcomer inside (fails_told (verdict_at rows count newcomer) (sym is.worst ∙ p)))
+
+module _ (rows : Rows) (keys : List ℕ) (count newcomer : ℕ) (lasts worsts : List ℕ) (inside : newcomer < count) (known : KnownBefore rows keys count newcomer lasts worsts)
+    (t : Tested) (is : TestedAs rows newcomer (blocking_in rows count newcomer) t) (worst : ℕ) (told : t.worst ≡ Some worst) where
   abbrev pub lasts_first : List ℕ
   lasts_first = set lasts (number_at keys newcomer) t.last
 
   abbrev pub worsts_first : List ℕ
-  worsts_first = set worsts (number_at keys newcomer) t.worst
-
-  pub newcomer_fails : t.passes ≡ false → TriedAs rows keys count lasts worsts false lasts worsts
-  newcomer_fails p = refused_as rows keys count lasts worsts (every_stop (passes_at rows count) count newcomer inside (sym is.passes ∙ p))
+  worsts_first = set worsts (number_at keys newcomer) worst
 
   pub bounds_first : Bounds rows keys count lasts_first
   bounds_first = bounds_put rows keys count lasts newcomer t.last known.apart inside is.near is.unmet known.bounds
 
   pub places_first : length worsts_first ≡ most_tasks
-  places_first = length-set worsts (number_at keys newcomer) t.worst ∙ known.places
+  places_first = length-set worsts (number_at keys newcomer) worst ∙ known.places
 
   module _ (lasts₂ worsts₂ : List ℕ) (p₂ : Bool) (others : OthersTested rows keys count newcomer lasts_first worsts_first p₂ lasts₂ worsts₂) where
     pub others_fail : p₂ ≡ false → TriedAs rows keys count lasts worsts false lasts worsts
@@ -122,51 +126,50 @@ module _ (rows keys : List ℕ) (count newcomer : ℕ) (lasts worsts : List ℕ)
           b j (λ r f u. outside r (omega arith) u) ∙ a j (λ r f u. outside r (omega arith) (omega (arith, u, inside)))
           ∙ get_or-set_other before (number_at keys newcomer) j v 0 (λ e. outside newcomer (omega arith) inside (sym e))
 
-      module _ (p : t.passes ≡ true) where
-        stands_first : (h : ℕ) → h < first → verdict_at rows count h ≡ Ok (of_rank keys worsts₂ h)
-        stands_first h l =
-            known.stands h (omega (arith, l, others.upto)) (others.shields h l)
-            ∙ ap Ok (sym (kept_below h (omega (arith, l, others.upto)) ∙ kept_above h (omega (arith, l, others.upto, inside)) (λ r f u e. omega (arith, f, e, l)) ∙ put_others keys worsts newcomer t.worst count h known.apart inside (omega (arith, l, others.upto, inside)) (λ e. omega (arith, e, l, others.upto))))
+      stands_first : (h : ℕ) → h < first → verdict_at rows count h ≡ Ok (of_rank keys worsts₂ h)
+      stands_first h l =
+          known.stands h (omega (arith, l, others.upto)) (others.shields h l)
+          ∙ ap Ok (sym (kept_below h (omega (arith, l, others.upto)) ∙ kept_above h (omega (arith, l, others.upto, inside)) (λ r f u e. omega (arith, f, e, l)) ∙ put_others keys worsts newcomer worst count h known.apart inside (omega (arith, l, others.upto, inside)) (λ e. omega (arith, e, l, others.upto))))
 
-        stands_higher : (h : ℕ) → first ≤ h → h < newcomer → verdict_at rows count h ≡ Ok (of_rank keys worsts₂ h)
-        stands_higher h f l =
-            let here : first + (h - first) ≡ h = omega arith in
-            stand_from h (sym (ap (passes_at rows count) here) ∙ every_at (λ x. passes_at rows count (first + x)) (newcomer - first) (sym one.all_pass) (h - first) (omega (arith, f, l)))
-            (kept_below h (omega (arith, l)) ∙ one.responses refl h f l)
+      stands_higher : (h : ℕ) → first ≤ h → h < newcomer → verdict_at rows count h ≡ Ok (of_rank keys worsts₂ h)
+      stands_higher h f l =
+          let here : first + (h - first) ≡ h = omega arith in
+          stand_from h (sym (ap (passes_at rows count) here) ∙ every_at (λ x. passes_at rows count (first + x)) (newcomer - first) (sym one.all_pass) (h - first) (omega (arith, f, l)))
+          (kept_below h (omega (arith, l)) ∙ one.responses refl h f l)
 
-        stands_newcomer : verdict_at rows count newcomer ≡ Ok (of_rank keys worsts₂ newcomer)
-        stands_newcomer =
-            stand_from newcomer (sym is.passes ∙ p)
-            (kept_below newcomer (omega arith) ∙ kept_above newcomer inside (λ r f u e. omega (arith, u, e)) ∙ put_own keys worsts newcomer t.worst known.places ∙ is.worst)
+      stands_newcomer : verdict_at rows count newcomer ≡ Ok (of_rank keys worsts₂ newcomer)
+      stands_newcomer =
+          stand_from newcomer (passes_told (verdict_at rows count newcomer) worst (sym is.worst ∙ told))
+          (kept_below newcomer (omega arith) ∙ kept_above newcomer inside (λ r f u e. omega (arith, u, e)) ∙ put_own keys worsts newcomer worst known.places ∙ response_told (verdict_at rows count newcomer) worst (sym is.worst ∙ told))
 
-        stands_lower : (h : ℕ) → newcomer < h → h < count → verdict_at rows count h ≡ Ok (of_rank keys worsts₂ h)
-        stands_lower h f l =
-            let here : newcomer + 1 + (h - (newcomer + 1)) ≡ h = omega arith in
-            stand_from h (sym (ap (passes_at rows count) here) ∙ every_at (λ x. passes_at rows count (newcomer + 1 + x)) (count - (newcomer + 1)) (sym two.all_pass) (h - (newcomer + 1)) (omega (arith, f, l)))
-            (two.responses refl h (omega (arith, f)) l)
+      stands_lower : (h : ℕ) → newcomer < h → h < count → verdict_at rows count h ≡ Ok (of_rank keys worsts₂ h)
+      stands_lower h f l =
+          let here : newcomer + 1 + (h - (newcomer + 1)) ≡ h = omega arith in
+          stand_from h (sym (ap (passes_at rows count) here) ∙ every_at (λ x. passes_at rows count (newcomer + 1 + x)) (count - (newcomer + 1)) (sym two.all_pass) (h - (newcomer + 1)) (omega (arith, f, l)))
+          (two.responses refl h (omega (arith, f)) l)
 
-        stands_all : (h : ℕ) → h < count → verdict_at rows count h ≡ Ok (of_rank keys worsts₂ h)
-        stands_all h l = elim (dec_lt h first) [
-          | yes before ↦ stands_first h before
-          | no later ↦ elim (dec_lt h newcomer) [
-            | yes higher ↦ stands_higher h (omega (arith, later)) higher
-            | no not_higher ↦ elim (ℕ_discrete newcomer h) [
-              | yes same ↦ subst (λ (x : ℕ). verdict_at rows count x ≡ Ok (of_rank keys worsts₂ x)) same stands_newcomer
-              | no other ↦ stands_lower h (omega (arith, not_higher, other)) l
-            ]
+      stands_all : (h : ℕ) → h < count → verdict_at rows count h ≡ Ok (of_rank keys worsts₂ h)
+      stands_all h l = elim (dec_lt h first) [
+        | yes before ↦ stands_first h before
+        | no later ↦ elim (dec_lt h newcomer) [
+          | yes higher ↦ stands_higher h (omega (arith, later)) higher
+          | no not_higher ↦ elim (ℕ_discrete newcomer h) [
+            | yes same ↦ subst (λ (x : ℕ). verdict_at rows count x ≡ Ok (of_rank keys worsts₂ x)) same stands_newcomer
+            | no other ↦ stands_lower h (omega (arith, not_higher, other)) l
           ]
         ]
+      ]
 
-        pub all_stand : TriedAs rows keys count lasts worsts true lasts₂ worsts₂
-        all_stand =
-            record {
-              all_pass = sym (every_all (passes_at rows count) count (λ h l. ap does_pass (stands_all h l)));
-              taken = λ x. record {
-                bounds = two.bounds;
-                places = two.places;
-                stand = stands_all;
-                other_lasts = only_all lasts others.lasts_between lasts₂ t.last one.other_lasts two.other_lasts;
-                other_worsts = only_all worsts worsts₁ worsts₂ t.worst one.other_worsts two.other_worsts;
-              };
-              refused = λ x. clash (sym x);
-            }
+      pub all_stand : TriedAs rows keys count lasts worsts true lasts₂ worsts₂
+      all_stand =
+          record {
+            all_pass = sym (every_all (passes_at rows count) count (λ h l. ap does_pass (stands_all h l)));
+            taken = λ x. record {
+              bounds = two.bounds;
+              places = two.places;
+              stand = stands_all;
+              other_lasts = only_all lasts others.lasts_between lasts₂ t.last one.other_lasts two.other_lasts;
+              other_worsts = only_all worsts worsts₁ worsts₂ worst one.other_worsts two.other_worsts;
+            };
+            refused = λ x. clash (sym x);
+          }

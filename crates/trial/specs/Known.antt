@@ -8,6 +8,7 @@ use Rattle.asked.specs.Rows.{cost_at, asked_by, blocking_in}
 use Rattle.asked.specs.Met.{UnmetBelow}
 use Rattle.verdict.specs.Tested.{verdict_in}
 use Rattle.roster.specs.Keys.{number_at}
+use Rattle.asked.specs.declared.rows.Rows.{Rows}
 
 -- a number for the member of a rank, from a list by number
 abbrev pub of_rank : (keys : List ℕ) → List ℕ → (rank : ℕ) → ℕ
@@ -18,16 +19,16 @@ abbrev pub Apart : (keys : List ℕ) → (count : ℕ) → Type 0
 Apart keys count = (r s : ℕ) → r < count → s < count → number_at keys r ≡ number_at keys s → r ≡ s
 
 -- ticks before which windows do not close
-pub record Bounds (rows keys : List ℕ) (count : ℕ) (lasts : List ℕ) : Type 0 where
+pub record Bounds (rows : Rows) (keys : List ℕ) (count : ℕ) (lasts : List ℕ) : Type 0 where
   pub places : length lasts ≡ most_tasks
   pub near : (r : ℕ) → r < count → of_rank keys lasts r ≤ 2_000_000
   pub unmet : (r : ℕ) → r < count → UnmetBelow (asked_by rows (r + 1)) (blocking_in rows count r) (of_rank keys lasts r)
 
 -- the verdict on the member of a rank, blocked by those after it
-abbrev pub verdict_at : List ℕ → (count rank : ℕ) → Verdict
+abbrev pub verdict_at : Rows → (count rank : ℕ) → Verdict
 verdict_at rows count rank = verdict_in rows rank (blocking_in rows count rank)
 
-abbrev pub passes_at : List ℕ → (count rank : ℕ) → Bool
+abbrev pub passes_at : Rows → (count rank : ℕ) → Bool
 passes_at rows count rank = does_pass (verdict_at rows count rank)
 
 -- only what belongs to ranks from one to before another has changed
@@ -35,7 +36,7 @@ abbrev pub OnlyRanks : (keys : List ℕ) → (from to : ℕ) → (before after :
 OnlyRanks keys from to before after = (j : ℕ) → ((r : ℕ) → from ≤ r → r < to → number_at keys r ≢ j) → get_or after j 0 ≡ get_or before j 0
 
 -- ranks from one to before another tested
-pub record TestedFrom (rows keys : List ℕ) (count from to : ℕ) (lasts worsts : List ℕ) (passes : Bool) (lasts' worsts' : List ℕ) : Type 0 where
+pub record TestedFrom (rows : Rows) (keys : List ℕ) (count from to : ℕ) (lasts worsts : List ℕ) (passes : Bool) (lasts' worsts' : List ℕ) : Type 0 where
   pub all_pass : passes ≡ every (λ x. passes_at rows count (from + x)) (to - from)
   pub bounds : Bounds rows keys count lasts'
   pub places : length worsts' ≡ most_tasks
@@ -44,7 +45,7 @@ pub record TestedFrom (rows keys : List ℕ) (count from to : ℕ) (lasts worsts
   pub other_worsts : OnlyRanks keys from to worsts worsts'
 
 -- another member after rank h has no smaller cost than the newcomer of a rank, which so blocks no longer
-pub record Shielded (rows : List ℕ) (count newcomer h : ℕ) : Type 0 where
+pub record Shielded (rows : Rows) (count newcomer h : ℕ) : Type 0 where
   pub by : ℕ
   pub after : h < by
   pub inside : by < count
@@ -52,7 +53,7 @@ pub record Shielded (rows : List ℕ) (count newcomer h : ℕ) : Type 0 where
   pub long : cost_at rows newcomer ≤ cost_at rows by
 
 -- the others tested with a newcomer: from the first that nothing shields to before it, then those below it
-pub record OthersTested (rows keys : List ℕ) (count newcomer : ℕ) (lasts worsts : List ℕ) (passes : Bool) (lasts' worsts' : List ℕ) : Type 0 where
+pub record OthersTested (rows : Rows) (keys : List ℕ) (count newcomer : ℕ) (lasts worsts : List ℕ) (passes : Bool) (lasts' worsts' : List ℕ) : Type 0 where
   pub first : ℕ
   pub upto : first ≤ newcomer
   pub shields : (h : ℕ) → h < first → Shielded rows count newcomer h
@@ -63,21 +64,21 @@ pub record OthersTested (rows keys : List ℕ) (count newcomer : ℕ) (lasts wor
   pub lower : passes ≡ true → TestedFrom rows keys count (newcomer + 1) count lasts_between worsts_between true lasts' worsts'
 
 -- what is known before a newcomer is tried
-pub record KnownBefore (rows keys : List ℕ) (count newcomer : ℕ) (lasts worsts : List ℕ) : Type 0 where
+pub record KnownBefore (rows : Rows) (keys : List ℕ) (count newcomer : ℕ) (lasts worsts : List ℕ) : Type 0 where
   pub apart : Apart keys count
   pub bounds : Bounds rows keys count lasts
   pub places : length worsts ≡ most_tasks
   pub stands : (h : ℕ) → h < newcomer → Shielded rows count newcomer h → verdict_at rows count h ≡ Ok (of_rank keys worsts h)
 
 -- what is known after it was: of all members where all pass, else as before
-pub record KnownAfter (rows keys : List ℕ) (count : ℕ) (lasts worsts lasts' worsts' : List ℕ) : Type 0 where
+pub record KnownAfter (rows : Rows) (keys : List ℕ) (count : ℕ) (lasts worsts lasts' worsts' : List ℕ) : Type 0 where
   pub bounds : Bounds rows keys count lasts'
   pub places : length worsts' ≡ most_tasks
   pub stand : (h : ℕ) → h < count → verdict_at rows count h ≡ Ok (of_rank keys worsts' h)
   pub other_lasts : OnlyRanks keys 0 count lasts lasts'
   pub other_worsts : OnlyRanks keys 0 count worsts worsts'
 
-pub record TriedAs (rows keys : List ℕ) (count : ℕ) (lasts worsts : List ℕ) (passes : Bool) (lasts' worsts' : List ℕ) : Type 0 where
+pub record TriedAs (rows : Rows) (keys : List ℕ) (count : ℕ) (lasts worsts : List ℕ) (passes : Bool) (lasts' worsts' : List ℕ) : Type 0 where
   pub all_pass : passes ≡ every (passes_at rows count) count
   pub taken : passes ≡ true → KnownAfter rows keys count lasts worsts lasts' worsts'
   pub refused : passes ≡ false → (lasts' ≡ lasts) × (worsts' ≡ worsts)

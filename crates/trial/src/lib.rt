@@ -9,35 +9,33 @@ ghost use Rattle.asked.specs.Met.{UnmetBelow};
 ghost use Rattle.verdict.specs.Tested.{TestedAs};
 ghost use Rattle.trial.specs.Known.{Apart, Bounds, TestedFrom, Shielded, OthersTested, KnownBefore, TriedAs};
 
-use asked::{COST, ROWS};
+use asked::Rows;
 use model::Order;
 use verdict::Tested;
 
 // The largest cost from a rank on.
-fn longest(rows: &[u32; ROWS], from: usize, count: usize) -> u32
+fn longest(rows: &Rows, from: usize, count: usize) -> u32
     requires { (from ≤ count) × (count ≤ most_tasks) }
     ensures { result ≡ largest (λ s. cost_at rows.now (from + s)) (count - from) }
 {
     let mut most: u32 = 0;
-    let mut r = from;
-    while r < count {
-        most = model::larger(most, rows[COST + r]);
-        r += 1;
+    for r in from..count {
+        most = most.max(rows.costs[r]);
     }
     most
 }
 
 // How long a member is blocked by those after it.
-pub fn blocking(rows: &[u32; ROWS], count: usize, rank: usize) -> u32
+pub fn blocking(rows: &Rows, count: usize, rank: usize) -> u32
     requires { (rank < count) × (count ≤ most_tasks) }
     ensures { result ≡ blocking_in rows.now count rank }
 {
-    model::larger(longest(rows, rank + 1, count), 1) - 1
+    longest(rows, rank + 1, count).saturating_sub(1)
 }
 
 // A tick before which the member does not start: one before which a higher member's window does not close, if what the members between them ask makes up for its longer blocking.
 fn head_start(
-    rows: &[u32; ROWS],
+    rows: &Rows,
     keys: &[u32; Order::MOST_TASKS],
     count: usize,
     rank: usize,
@@ -47,22 +45,20 @@ fn head_start(
     requires { (rank < count) × RowsFit rows.now count × (blocked ≡ blocking_in rows.now count rank) × Bounds rows.now keys.now count lasts.now }
     ensures { (result ≤ 2_000_000) × UnmetBelow (asked_by rows.now rank) (blocked + 1) result }
 {
-    let own = rows[COST + rank];
+    let own = rows.costs[rank];
     let mut covered = blocked + 2;
-    let mut g = rank;
-    while 0 < g {
+    for higher in (0..rank).rev() {
         if own <= covered {
-            return lasts[roster::number_in(keys[g - 1])];
+            return lasts[roster::number_in(keys[higher])];
         }
-        g -= 1;
-        covered = covered + rows[COST + g];
+        covered += rows.costs[higher];
     }
     0
 }
 
 // The test of the member of a rank.
 pub fn test_rank(
-    rows: &[u32; ROWS],
+    rows: &Rows,
     keys: &[u32; Order::MOST_TASKS],
     count: usize,
     rank: usize,
@@ -78,7 +74,7 @@ pub fn test_rank(
 
 // The members of ranks from one to before another, until one fails.
 pub fn test_from(
-    rows: &[u32; ROWS],
+    rows: &Rows,
     keys: &[u32; Order::MOST_TASKS],
     count: usize,
     from: usize,
@@ -89,41 +85,37 @@ pub fn test_from(
     requires { (from ≤ to) × (to ≤ count) × RowsFit rows.now count × Apart keys.now count × Bounds rows.now keys.now count lasts.old × (length worsts.old ≡ most_tasks) }
     ensures { TestedFrom rows.now keys.now count from to lasts.old worsts.old result lasts.new worsts.new }
 {
-    let mut rank = from;
-    while rank < to {
+    for rank in from..to {
         let tested = test_rank(rows, keys, count, rank, lasts);
-        if !tested.passes {
+        let Some(worst) = tested.worst else {
             return false;
-        }
+        };
         let number = roster::number_in(keys[rank]);
         lasts[number] = tested.last;
-        worsts[number] = tested.worst;
-        rank += 1;
+        worsts[number] = worst;
     }
     true
 }
 
 // The first rank from which on the newcomer blocks longer than others do.
-fn first_blocked(rows: &[u32; ROWS], count: usize, newcomer: usize) -> usize
+fn first_blocked(rows: &Rows, count: usize, newcomer: usize) -> usize
     requires { (newcomer < count) × RowsFit rows.now count }
     ensures { (result ≤ newcomer) × ((h : ℕ) → h < result → Shielded rows.now count newcomer h) }
 {
-    let cost = rows[COST + newcomer];
+    let cost = rows.costs[newcomer];
     let mut other = longest(rows, newcomer + 1, count);
-    let mut first = newcomer;
-    while 0 < first {
+    for higher in (0..newcomer).rev() {
         if cost <= other {
-            return first;
+            return higher + 1;
         }
-        first -= 1;
-        other = model::larger(other, rows[COST + first]);
+        other = other.max(rows.costs[higher]);
     }
     0
 }
 
 // Those that a newcomer blocks longer, then those below it, until one fails.
 fn test_others(
-    rows: &[u32; ROWS],
+    rows: &Rows,
     keys: &[u32; Order::MOST_TASKS],
     count: usize,
     newcomer: usize,
@@ -134,15 +126,13 @@ fn test_others(
     ensures { OthersTested rows.now keys.now count newcomer lasts.old worsts.old result lasts.new worsts.new }
 {
     let first = first_blocked(rows, count, newcomer);
-    if !test_from(rows, keys, count, first, newcomer, lasts, worsts) {
-        return false;
-    }
-    test_from(rows, keys, count, newcomer + 1, count, lasts, worsts)
+    test_from(rows, keys, count, first, newcomer, lasts, worsts)
+        && test_from(rows, keys, count, newcomer + 1, count, lasts, worsts)
 }
 
 // A newcomer among the members: it is tested first, then the others that it touches.
 fn test_touched(
-    rows: &[u32; ROWS],
+    rows: &Rows,
     keys: &[u32; Order::MOST_TASKS],
     count: usize,
     newcomer: usize,
@@ -153,14 +143,14 @@ fn test_touched(
     ensures { TriedAs rows.now keys.now count lasts.old worsts.old result lasts.new worsts.new }
 {
     let tested = test_rank(rows, keys, count, newcomer, lasts);
-    if !tested.passes {
+    let Some(worst) = tested.worst else {
         return false;
-    }
+    };
     let number = roster::number_in(keys[newcomer]);
     let mut new_lasts = *lasts;
     let mut new_worsts = *worsts;
     new_lasts[number] = tested.last;
-    new_worsts[number] = tested.worst;
+    new_worsts[number] = worst;
     if !test_others(rows, keys, count, newcomer, &mut new_lasts, &mut new_worsts) {
         return false;
     }
@@ -171,7 +161,7 @@ fn test_touched(
 
 // A newcomer among the members: where all ask for more than there is, the lowest fails, and none is tested.
 pub fn tries(
-    rows: &[u32; ROWS],
+    rows: &Rows,
     keys: &[u32; Order::MOST_TASKS],
     count: usize,
     newcomer: usize,
@@ -181,8 +171,5 @@ pub fn tries(
     requires { (newcomer < count) × RowsFit rows.now count × KnownBefore rows.now keys.now count newcomer lasts.old worsts.old }
     ensures { TriedAs rows.now keys.now count lasts.old worsts.old result lasts.new worsts.new }
 {
-    if verdict::overfull(rows, count, 0) {
-        return false;
-    }
-    test_touched(rows, keys, count, newcomer, lasts, worsts)
+    !verdict::overfull(rows, count, 0) && test_touched(rows, keys, count, newcomer, lasts, worsts)
 }

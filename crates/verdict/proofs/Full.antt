@@ -1,8 +1,6 @@
 -- Where more is asked in every tick than the tick itself, no window closes; and the window as a search over one row more.
 use Rattle.std.specs.Prelude.{Some, None, Ok, Err}
 use mathlib.Core.Path.{◌≡◌, sym, ap, subst}
-use mathlib.Core.Bool.{true, false}
-use mathlib.Core.List.{List}
 use Prim.Native.Nat.{ℕ, ◌+◌, ◌-◌, ◌*◌, ◌≤◌, ◌<◌, min}
 use native.Mathlib.Nat.{mul_comm, mul-le-mul_left, mul-add}
 use native.Mathlib.Decide.{dec_le}
@@ -10,21 +8,21 @@ use native.Mathlib.Omega.{arith}
 use Rattle.model.specs.Limits.{horizon}
 use Rattle.demand.specs.declared.Failing.TheVariants.{NoWindow}
 use Rattle.demand.specs.Releases.{work_by}
-use Rattle.demand.specs.Test.{does_pass, response_of}
 use Rattle.demand.specs.Meaning.{NeverMet}
 use Rattle.demand.specs.Over.{window_over, verdict_over}
 use Rattle.demand.proofs.FirstMet.{met_at, met_never}
 use Rattle.asked.specs.Rows.{RowsFit, row_task, asked_by, whole}
 use Rattle.asked.specs.Lines.{line_in}
 use Rattle.asked.specs.Met.{met_by, UnmetBelow}
-use Rattle.asked.proofs.Rows.{asked_more}
+use Rattle.asked.proofs.RowLaws.{asked_more}
 use Rattle.asked.proofs.Slopes.{line_later}
 use Rattle.asked.proofs.Said as said
-use Rattle.verdict.specs.Tested.{window_of, verdict_in, TestedAs}
+use Rattle.verdict.specs.Tested.{worst_of, window_of, verdict_in, TestedAs}
 use Rattle.verdict.specs.declared.Tested.{Tested}
 use Rattle.verdict.proofs.InTurn.{OpenTo, Fails}
+use Rattle.asked.specs.declared.rows.Rows.{Rows}
 
-module _ (rows : List ℕ) (rank : ℕ) (fit : RowsFit rows (rank + 1)) (B : ℕ) where
+module _ (rows : Rows) (rank : ℕ) (fit : RowsFit rows (rank + 1)) (B : ℕ) where
   -- what a window asks is what one row more asks
   pub asks : (w : ℕ) → window_over (asked_by rows rank) B (row_task rows rank) (w + 1) ≡ B + asked_by rows (rank + 1) w
   unfolding window_over
@@ -57,7 +55,7 @@ module _ (rows : List ℕ) (rank : ℕ) (fit : RowsFit rows (rank + 1)) (B : ℕ
   no_window unmet = rw (met_never (window_over (asked_by rows rank) B (row_task rows rank)) 1 (none_closes unmet))
 
   pub unmet_fails : UnmetBelow (asked_by rows (rank + 1)) B horizon → Fails (asked_by rows rank) B (row_task rows rank)
-  unmet_fails unmet = record { passes = ap does_pass (no_window unmet); worst = ap response_of (no_window unmet) }
+  unmet_fails unmet = ap worst_of (no_window unmet)
 
   -- a window that stays open, as the search sees it
   pub open_unmet : (t : ℕ) → t ≤ horizon → OpenTo (asked_by rows rank) B (row_task rows rank) t → UnmetBelow (asked_by rows (rank + 1)) B t
@@ -68,13 +66,13 @@ module _ (rows : List ℕ) (rank : ℕ) (fit : RowsFit rows (rank + 1)) (B : ℕ
 
   -- a member that fails, and one that passes
   pub failed_as : (last : ℕ) → Fails (asked_by rows rank) B (row_task rows rank) → last ≤ 2_000_000 → UnmetBelow (asked_by rows (rank + 1)) B last →
-      (r : Tested) → r ≡ record { passes = false; worst = 0; last = last } → TestedAs rows rank B r
+      (r : Tested) → r ≡ record { worst = None; last = last } → TestedAs rows rank B r
   failed_as last fails near unmet r e =
-      subst (TestedAs rows rank B) (sym e) (record { passes = sym fails.passes; worst = sym fails.worst; near = near; unmet = unmet })
+      subst (TestedAs rows rank B) (sym e) (record { worst = sym fails; near = near; unmet = unmet })
 
   pub passed_as : (worst last : ℕ) → verdict_in rows rank B ≡ Ok worst → last ≤ 2_000_000 → UnmetBelow (asked_by rows (rank + 1)) B last →
-      TestedAs rows rank B (record { passes = true; worst = worst; last = last })
-  passed_as worst last e near unmet = record { passes = sym (ap does_pass e); worst = sym (ap response_of e); near = near; unmet = unmet }
+      TestedAs rows rank B (record { worst = Some worst; last = last })
+  passed_as worst last e near unmet = record { worst = sym (ap worst_of e); near = near; unmet = unmet }
 
   -- the window by the search
   pub met_window : (w : ℕ) → met_by (asked_by rows (rank + 1)) B (horizon - 1) ≡ Some w → window_of (asked_by rows rank) B (row_task rows rank) ≡ Some (w + 1)

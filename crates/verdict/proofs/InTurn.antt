@@ -1,7 +1,6 @@
 -- A member's jobs, one after the other: what the searches' answers say of its window and of its verdict.
 use Rattle.std.specs.Prelude.{Some, None, Option, Ok, Err}
 use mathlib.Core.Path.{◌≡◌, refl, sym, ap, ◌∙◌}
-use mathlib.Core.Bool.{false}
 use mathlib.Core.Logic.{◌↔◌}
 use Prim.Native.Nat.{ℕ, ◌+◌, ◌-◌, ◌*◌, ◌≤◌, ◌<◌, min, max}
 use native.Mathlib.Nat.{le_trans, mul-le-mul_left, add-mul, one-mul, le_antisymm}
@@ -12,7 +11,7 @@ use Rattle.model.specs.Limits.{horizon, cost}
 use Rattle.model.specs.Rules.{Sized}
 use Rattle.demand.specs.declared.Failing.TheVariants.{NoWindow, TooLate}
 use Rattle.demand.specs.Releases.{work_by, jobs}
-use Rattle.demand.specs.Test.{first_met, largest_found, judged, does_pass, response_of}
+use Rattle.demand.specs.Test.{first_met, largest_found, judged}
 use Rattle.demand.specs.Meaning.{FirstMetAt, NeverMet}
 use Rattle.demand.specs.Over.{start_over, window_over, job_base, response_over, verdict_over}
 use Rattle.demand.proofs.Releases.{jobs_are, work_spaced, work_few}
@@ -21,6 +20,7 @@ use Rattle.demand.proofs.Largest.{largest_found_none, largest_found_more, judged
 use Rattle.demand.proofs.Over.{Grows, Job, job}
 use Rattle.asked.specs.Met.{met_by, UnmetBelow}
 use Rattle.asked.proofs.Said as said
+use Rattle.verdict.specs.Tested.{worst_of}
 
 module _ (work : ℕ → ℕ) (B : ℕ) (task : Task) where
   -- no window of up to t ticks closes
@@ -28,9 +28,8 @@ module _ (work : ℕ → ℕ) (B : ℕ) (task : Task) where
   OpenTo t = (s : ℕ) → 1 ≤ s → s ≤ t → s ≤ horizon → s < window_over work B task s
 
   -- it does not pass
-  pub record Fails : Type 0 where
-    pub passes : does_pass (verdict_over work B task) ≡ false
-    pub worst : response_of (verdict_over work B task) ≡ 0
+  abbrev pub Fails : Type 0
+  Fails = worst_of (verdict_over work B task) ≡ None
 
   -- before job q: the base of its start, where its search begins, and the worst response so far
   pub record Going (q base release begin worst : ℕ) : Type 0 where
@@ -66,10 +65,10 @@ module _ (work : ℕ → ℕ) (grows : Grows work) (B : ℕ) (task : Task) (size
   never none = rw (met_never (window_over work B task) 1 none)
 
   pub window_fails : verdict_over work B task ≡ Err NoWindow → Fails work B task
-  window_fails e = record { passes = ap does_pass e; worst = ap response_of e }
+  window_fails e = ap worst_of e
 
   pub late_fails : verdict_over work B task ≡ Err TooLate → Fails work B task
-  late_fails e = record { passes = ap does_pass e; worst = ap response_of e }
+  late_fails e = ap worst_of e
 
   -- open beyond the horizon: no window
   pub open_fails : (t : ℕ) → horizon ≤ t → OpenTo work B task t → Fails work B task

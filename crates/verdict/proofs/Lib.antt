@@ -1,2 +1,3 @@
 pub mod InTurn
 pub mod Full
+pub mod Told

@@ -1,11 +1,7 @@
-use Prim.Native.Nat.{◌-◌}
-use lib.Dec.{ltb}
+use Rattle.std.proofs.Common.{ltb}
 use Rattle.roster.specs.Keys.{home_in, key_at}
 use Rattle.inspect_tests.proofs.Looked.{Looked}
 use Rattle.inspect_tests.proofs.first_of.Given as goal
 
 abbrev pub invariant-loop-first : goal.invariant-loop-first
 invariant-loop-first l = Looked (λ s. ltb (home_in (key_at l.keys s)) l.home) l.tasks l.first
-
-abbrev pub decreases-loop-first : goal.decreases-loop-first
-decreases-loop-first l = l.tasks - l.first

@@ -1,9 +1,5 @@
-use Prim.Native.Nat.{◌-◌, ◌≤◌}
 use Rattle.inspect_tests.specs.Results.{TestedRanks}
 use Rattle.inspect_tests.proofs.test_members.Given as goal
 
 abbrev pub invariant-loop-rank : goal.invariant-loop-rank
-invariant-loop-rank l = (l.rank ≤ l.count) × TestedRanks l.rows l.keys l.count l.rank l.lowest l.initial.lasts l.initial.worsts l.failing l.lasts l.worsts
-
-abbrev pub decreases-loop-rank : goal.decreases-loop-rank
-decreases-loop-rank l = l.count - l.rank
+invariant-loop-rank l = TestedRanks l.rows l.keys l.count l.rank l.lowest l.initial.lasts l.initial.worsts l.failing l.lasts l.worsts

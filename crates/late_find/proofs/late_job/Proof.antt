@@ -7,7 +7,7 @@ use Rattle.model.specs.Limits.{horizon, cost}
 use Rattle.demand.proofs.Over.{Grows}
 use Rattle.asked.specs.Rows.{asked_by}
 use Rattle.asked.specs.Met.{met_by}
-use Rattle.asked.proofs.Rows.{asked_grows}
+use Rattle.asked.proofs.RowLaws.{asked_grows}
 use Rattle.late_find.proofs.Jobs.{SoFar, none_yet, early, base_small, number_small, starts_past, first_late, start_small, one_more}
 use Rattle.late_find.proofs.late_job.Statement.{statement}
 use Rattle.late_find.proofs.late_job.Tie as tie
@@ -101,9 +101,6 @@ returns-in_default : tie.Need-returns-in_default invariant-loop-release decrease
 returns-in_default c =
     first_late (work c.before.before.before.before.before.before.before.before) c.args.blocking c.args.task c.loop-release.number c.loop-release.base c.loop-release.release c.loop-release.from c.loop-release.invariant c.requires.2 c.requires.3 (sym (answer c.before.before) ∙ c.in_default.is) c.start_from.result c.start_from.ensures
 
-overflow_cast-from : tie.Need-overflow_cast-from invariant-loop-release decreases-loop-release
-overflow_cast-from c = record { fits = omega (arith, started c) }
-
 cost-requires-in-loop-release : tie.Need-cost-requires-in-loop-release invariant-loop-release decreases-loop-release
 cost-requires-in-loop-release c κs = search rules
 
@@ -138,4 +135,4 @@ returns : tie.Need-returns invariant-loop-release decreases-loop-release
 returns c = absurd (omega (arith, small c.before, c.loop-release-test.false))
 
 pub late_job_spec : {M : Type 1} → statement M
-late_job_spec = tie.close (tie.spec invariant-loop-release decreases-loop-release loop-release-init overflow_add-due cost-requires overflow_sub-due wide-requires overflow_add-wide met-search-requires enum_known-found enum_told-1 overflow_add-due-in_default start_from-requires returns-in_default overflow_cast-from cost-requires-in-loop-release overflow_add-from cost-base-requires overflow_add-base overflow_add-release overflow_add-number loop-release-smaller loop-release-preserved returns)
+late_job_spec = tie.close (tie.spec invariant-loop-release decreases-loop-release loop-release-init overflow_add-due cost-requires overflow_sub-due wide-requires overflow_add-wide met-search-requires enum_known-found enum_told-1 overflow_add-due-in_default start_from-requires returns-in_default cost-requires-in-loop-release overflow_add-from cost-base-requires overflow_add-base overflow_add-release overflow_add-number loop-release-smaller loop-release-preserved returns)

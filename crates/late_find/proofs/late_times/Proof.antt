@@ -7,6 +7,8 @@ use Rattle.demand.specs.Releases.{period_of}
 use Rattle.demand.specs.Test.{blocking, higher_work}
 use Rattle.demand.proofs.Demands.{sized_of, blocking_most}
 use Rattle.asked.specs.Rows.{RowsFit, asked_by}
+use Rattle.roster.specs.Rows.{RowPlaces}
+use Rattle.roster.proofs.Rowing.{zero_places}
 use Rattle.late_find.specs.Found.{LateOver, FirstLateOver, TimedBy, besides}
 use Rattle.late_find.proofs.Asked.{higher_fit, higher_asked}
 use Rattle.late_find.proofs.Blocker.{blocking_is}
@@ -42,8 +44,11 @@ overflow_sub-blocking c = search rules
 higher_of-count-requires : tie.Need-higher_of-count-requires
 higher_of-count-requires c κs = search rules
 
+zero-rows-requires : tie.Need-zero-rows-requires
+zero-rows-requires c κs = search rules
+
 fill_rows-requires : tie.Need-fill_rows-requires
-fill_rows-requires c κs = search rules
+fill_rows-requires c κs = (omega (arith, c.higher_of-count.ensures.few, c.requires.limits.tasks.1), subst RowPlaces (sym c.zero-rows.ensures) zero_places)
 
 -- the places before: the start, the keys, the rows by number, the longest of the lower members, and the higher members
 
@@ -51,10 +56,10 @@ abbrev higher-at : tie.After-fill_rows → tie.After-higher_of-count
 higher-at f = f.before.before.before.before
 
 abbrev longest-of : tie.After-fill_rows → tie.After-longest_below-longest
-longest-of f = f.before.before.before.before.before.before.before.before.before
+longest-of f = f.before.before.before.before.before.before.before.before.before.before
 
 abbrev table_of : tie.After-fill_rows → tie.After-row_table-by_number
-table_of f = f.before.before.before.before.before.before.before.before.before.before.before.before
+table_of f = f.before.before.before.before.before.before.before.before.before.before.before.before.before
 
 abbrev keyed-of : tie.After-fill_rows → tie.After-keys_by_number-keys
 keyed-of f = (table_of f).before
@@ -144,4 +149,4 @@ returns c =
     (subst (λ (x : ℕ). TimedBy (keyed-of c.before.before.before.before.before.before.before.before).keys_by_number-keys.result s.args.order.tasks (record { named = i; begin = x; last = x + q * period_of s.args.order i; start = x + w; blocker = blocker }) c.times_by.result) begins c.times_by.ensures)
 
 pub late_times_spec : {M : Type 1} → statement M
-late_times_spec = tie.close (tie.spec offset_bounds-table-named bounds-table-named overflow_cast-tasks keys_by_number-keys-requires row_table-by_number-requires longest_below-longest-requires smaller-requires overflow_sub-blocking higher_of-count-requires fill_rows-requires late_job-job-requires smaller-begin-requires overflow_mul-late overflow_add-late overflow_add-late-2 times_by-requires returns)
+late_times_spec = tie.close (tie.spec offset_bounds-table-named bounds-table-named overflow_cast-tasks keys_by_number-keys-requires row_table-by_number-requires longest_below-longest-requires smaller-requires overflow_sub-blocking zero-rows-requires higher_of-count-requires fill_rows-requires late_job-job-requires smaller-begin-requires overflow_mul-late overflow_add-late overflow_add-late-2 times_by-requires returns)

@@ -23,11 +23,6 @@ found-start work base from wide found start its said widened at =
 pub met-search-requires : goal.met-search-requires
 met-search-requires c = (c.requires.0, omega (arith, c.wide.ensures, c.requires.1), c.requires.2, omega arith, λ s l. omega (arith, unmet_before _ _ _ c.requires.3 s l, c.wide.ensures))
 
-pub overflow_cast-result : goal.overflow_cast-result
-overflow_cast-result c =
-    let a = c.args in
-    record { fits = omega (arith, (found-start (asked_by a.rows.now a.count) a.base a.from c.wide.result c.met-search.result.found c.in-Some.start c.requires.3 c.met-search.ensures.found c.wide.ensures c.in-Some.is).upto) }
-
 pub returns-in-Some : goal.returns-in-Some
 returns-in-Some c =
     let a = c.args in

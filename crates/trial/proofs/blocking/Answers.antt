@@ -1,7 +1,7 @@
-use native.Mathlib.Omega.{arith}
+use Rattle.std.proofs.Common.{arith}
 use Rattle.asked.specs.Rows.{blocking_in}
 use Rattle.trial.proofs.blocking.Goals as goal
 
 pub returns : goal.returns
 unfolding blocking_in
-returns c = omega (arith, c.larger.ensures, c.longest.ensures)
+returns c = omega arith

@@ -1,7 +1,7 @@
 use native.Mathlib.Omega.{arith}
 use mathlib.Core.Path.{subst}
 use Prim.Native.Nat.{ℕ, ◌+◌}
-use Rattle.asked.proofs.Rows.{fit_fewer}
+use Rattle.asked.proofs.RowLaws.{fit_fewer}
 use Rattle.verdict.specs.Tested.{TestedAs}
 use Rattle.trial.proofs.Heads.{blocking_in_most}
 use Rattle.trial.proofs.test_rank.Goals as goal

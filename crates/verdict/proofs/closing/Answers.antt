@@ -1,4 +1,3 @@
-use Rattle.std.specs.Prelude.{Some}
 use native.Mathlib.Omega.{arith}
 use mathlib.Core.Path.{sym, ap, ◌∙◌}
 use Prim.Native.Nat.{ℕ, ◌-◌}
@@ -9,12 +8,12 @@ use Rattle.verdict.proofs.closing.Goals as goal
 
 pub met-requires : goal.met-requires
 met-requires c =
-    (c.requires.0, omega (arith, c.wide.ensures, c.requires.1), omega (arith, c.requires.3), omega (arith, c.requires.5), λ s l. omega (arith, c.requires.6 s l, c.wide.ensures))
+    (c.requires.0, omega (arith, c.from.ensures, c.requires.1), omega (arith, c.requires.3), omega (arith, c.requires.5), λ s l. omega (arith, c.requires.6 s l, c.from.ensures))
 
 pub returns-then-next-end : goal.returns-then-next-end
 returns-then-next-end c =
     let a = c.args in
-    c.met.ensures.found ∙ ap (λ (x : ℕ). met_by (asked_by a.rows.now a.count) x (a.limit - 1)) c.wide.ensures
+    c.met.ensures.found ∙ ap (λ (x : ℕ). met_by (asked_by a.rows.now a.count) x (a.limit - 1)) c.from.ensures
 
 pub returns-then-limit-end : goal.returns-then-limit-end
 returns-then-limit-end c =
@@ -24,5 +23,4 @@ returns-then-limit-end c =
 pub returns : goal.returns
 returns c =
     let a = c.args in
-    ap (λ (x : ℕ). Some (x - 1)) c.wide-2.ensures
-    ∙ sym (met_here (asked_by a.rows.now a.count) a.base (a.limit - 1) (a.end - 1) (omega (arith, c.if-limit-end.false)) c.requires.6 (omega (arith, c.requires.7 c.if-next-end.false, c.requires.2)))
+    sym (met_here (asked_by a.rows.now a.count) a.base (a.limit - 1) (a.end - 1) (omega arith) c.requires.6 (omega (arith, c.requires.7 c.if-next-end.false)))

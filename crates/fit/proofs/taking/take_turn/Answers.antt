@@ -8,9 +8,6 @@ next_task-requires c = few_tasks _ _ _ _ _ _ _ c.requires
 pub returns-in_default : goal.returns-in_default
 returns-in_default c = idle_turn _ _ _ _ _ _ _ c.requires _ (sym c.next_task.ensures ∙ c.in_default.is) refl _ _ _
 
-pub overflow_add-deadline : goal.overflow_add-deadline
-overflow_add-deadline c = omega (arith, task_small _ _ _ _ _ _ _ c.requires _ (sym c.in-Some.ensures))
-
 pub offset_bounds-table-task : goal.offset_bounds-table-task
 offset_bounds-table-task c = omega (arith, task_small _ _ _ _ _ _ _ c.requires _ (sym c.in-Some.ensures))
 
@@ -38,9 +35,6 @@ returns-in-Some-found c =
     seated _ _ _ _ _ _ _ c.requires _ (sym c.in-Some.ensures) _ _ _ _ _ _ _ lowest c.in-Some-found.is c.key_of.ensures c.put_in.ensures.line (ap Ok c.put.ensures)
 
 -- none takes it
-pub overflow_add-worsts : goal.overflow_add-worsts
-overflow_add-worsts c = omega (arith, task_small _ _ _ _ _ _ _ c.requires _ (sym c.in-Some.ensures))
-
 pub offset_bounds-table-task-2 : goal.offset_bounds-table-task-2
 offset_bounds-table-task-2 c = omega (arith, task_small _ _ _ _ _ _ _ c.requires _ (sym c.in-Some.ensures))
 

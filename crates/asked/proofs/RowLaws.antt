@@ -1,6 +1,5 @@
 -- Laws of what rows ask: row by row, its growth, and its bounds.
 use mathlib.Core.Path.{◌≡◌}
-use mathlib.Core.List.{List}
 use Prim.Native.Nat.{ℕ, ◌+◌, ◌*◌, ◌≤◌, ◌<◌}
 use native.Mathlib.Omega.{arith}
 use Rattle.laws.proofs.Sums.{sum_none, sum_more, sum_le}
@@ -10,13 +9,14 @@ use Rattle.demand.specs.Releases.{work_by}
 use Rattle.demand.proofs.Releases.{work_mono, work_most}
 use Rattle.demand.proofs.Over.{Grows}
 use Rattle.asked.specs.Rows.{row_task, RowsFit, asked_by}
+use Rattle.asked.specs.declared.rows.Rows.{Rows}
 
 -- fewer of the rows fit too
-pub fit_fewer : (rows : List ℕ) (count fewer : ℕ) → fewer ≤ count → RowsFit rows count → RowsFit rows fewer
+pub fit_fewer : (rows : Rows) (count fewer : ℕ) → fewer ≤ count → RowsFit rows count → RowsFit rows fewer
 fit_fewer rows count fewer le f =
     record { few = omega (arith, f.few); each = λ r l. f.each r (omega arith); shares = λ r l. f.shares r (omega arith) }
 
-module _ (rows : List ℕ) where
+module _ (rows : Rows) where
   pub asked_none : (w : ℕ) → asked_by rows 0 w ≡ 0
   unfolding asked_by
   asked_none w = sum_none _
