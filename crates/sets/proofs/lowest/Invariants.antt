@@ -1,12 +1,7 @@
-use Prim.Native.Nat.{◌-◌, ◌≤◌}
 use mathlib.Core.Path.{◌≡◌}
-use Rattle.model.specs.Limits.{most_processors}
 use Rattle.sets.specs.Sets.{processors_below}
 use Rattle.sets.proofs.Chosen.{chosen_below, is_low}
 use Rattle.sets.proofs.lowest.Given as goal
 
 abbrev pub invariant-loop-processor : goal.invariant-loop-processor
-invariant-loop-processor l = (l.processor ≤ most_processors) × (l.chosen ≡ chosen_below (is_low l.set l.count) l.processor) × (l.below ≡ processors_below l.set l.processor)
-
-abbrev pub decreases-loop-processor : goal.decreases-loop-processor
-decreases-loop-processor l = most_processors - l.processor
+invariant-loop-processor l = (l.chosen ≡ chosen_below (is_low l.set l.count) l.processor) × (l.below ≡ processors_below l.set l.processor)
