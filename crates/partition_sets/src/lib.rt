@@ -8,18 +8,13 @@ use model::{Build, CallCause, Refusal};
 use sets::partition_set;
 
 // The set of each partition into the front of out.
-fn put_sets(build: Build, out: &mut [u64])
-    requires { PartitionsFit build × (build.partitions ≤ length out.old) }
-    ensures { out.new ≡ build_sets build ++ drop build.partitions out.old }
+fn put_sets(build: &Build, out: &mut [u64])
+    requires fit { PartitionsFit build.now }
+    requires room { build.now.partitions ≤ length out.old }
+    ensures { out.new ≡ build_sets build.now ++ drop build.now.partitions out.old }
 {
-    let places = build.places;
-    let partitions = build.partitions as usize;
-    let mut i: usize = 0;
-    while i < partitions {
-        let place = places[i];
-        let set = partition_set(place);
-        out[i] = set;
-        i += 1;
+    for i in 0..build.partitions as usize {
+        out[i] = partition_set(build.places[i]);
     }
 }
 
@@ -32,6 +27,6 @@ pub fn partition_sets(order: &[u8], build: &[u8], out: &mut [u64]) -> Result<u32
     if out.len() < partitions as usize {
         return Err(Refusal::OfCall(CallCause::Output));
     }
-    put_sets(accepted.build, out);
+    put_sets(&accepted.build, out);
     Ok(partitions)
 }

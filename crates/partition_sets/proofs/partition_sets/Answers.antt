@@ -11,9 +11,12 @@ pub returns-then-out-partitions : goal.returns-then-out-partitions
 returns-then-out-partitions c =
     no_room c.args.order.now c.args.build.now c.args.out.now c.check_both.ensures c.in_ok-accepted.was c.if-out-partitions.true
 
-pub put_sets-requires : goal.put_sets-requires
-put_sets-requires c =
-    (partitions_fit _ _ (handed_accepted c.args.order.now c.args.build.now c.check_both.ensures c.in_ok-accepted.was), c.if-out-partitions.false)
+pub put_sets-requires-clause-fit : goal.put_sets-requires-clause-fit
+put_sets-requires-clause-fit c =
+    partitions_fit _ _ (handed_accepted c.args.order.now c.args.build.now c.check_both.ensures c.in_ok-accepted.was)
+
+pub put_sets-requires-clause-room : goal.put_sets-requires-clause-room
+put_sets-requires-clause-room c = c.if-out-partitions.false
 
 pub returns : goal.returns
 returns c =

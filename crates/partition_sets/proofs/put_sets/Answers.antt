@@ -14,26 +14,26 @@ use Rattle.partition_sets.proofs.put_sets.Goals as goal
 pub loop-i-init : goal.loop-i-init
 loop-i-init c = (omega arith, sym (overlaid_none _ _))
 
-pub partition_set-set-requires : goal.partition_set-set-requires
-partition_set-set-requires c = c.requires.0.each c.loop-i.i c.loop-i-test.true
+pub partition_set-requires : goal.partition_set-requires
+partition_set-requires c = c.requires.fit.each c.loop-i.i c.loop-i-test.true
 
 pub bounds-out-i : goal.bounds-out-i
 bounds-out-i c =
-    let room = c.requires.1 in
+    let room = c.requires.room in
     let same = ap length c.loop-i.invariant.1 ∙ length-overlaid _ _ c.loop-i.i (omega (arith, c.loop-i.invariant.0, room)) in
     omega (arith, same, c.loop-i-test.true, room)
 
 pub loop-i-preserved : goal.loop-i-preserved
 loop-i-preserved c =
     let more = c.loop-i-test.true in
-    let room = c.requires.1 in
-    (omega (arith, more), set_next _ _ _ c.loop-i.i _ c.loop-i.invariant.1 c.partition_set-set.ensures (omega (arith, more, room)))
+    let room = c.requires.room in
+    (omega (arith, more), set_next _ _ _ c.loop-i.i _ c.loop-i.invariant.1 c.partition_set.ensures (omega (arith, more, room)))
 
 pub shape_of-out : goal.shape_of-out
 shape_of-out c =
-    ap length c.loop-i.invariant.1 ∙ length-overlaid _ _ c.loop-i.i (omega (arith, c.loop-i.invariant.0, c.requires.1))
+    ap length c.loop-i.invariant.1 ∙ length-overlaid _ _ c.loop-i.i (omega (arith, c.loop-i.invariant.0, c.requires.room))
 
 pub returns : goal.returns
 unfolding build_sets
 returns c =
-    c.loop-i.invariant.1 ∙ ap (λ (k : ℕ). overlaid (λ p. partition_set (place_of c.args.build p)) k c.args.out.now) (le_antisymm c.loop-i.invariant.0 c.loop-i-test.false)
+    c.loop-i.invariant.1 ∙ ap (λ (k : ℕ). overlaid (λ p. partition_set (place_of c.args.build.now p)) k c.args.out.now) (le_antisymm c.loop-i.invariant.0 c.loop-i-test.false)
