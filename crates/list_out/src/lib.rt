@@ -17,7 +17,8 @@ use sets::has;
 
 // A processor that is above all of a set: none is looked for from it on.
 fn above_all(set: u64) -> u32
-    ensures { (result ≤ most_processors) × (set < 2 ^ result) }
+    ensures few { result ≤ most_processors }
+    ensures above { set < 2 ^ result }
 {
     Order::MOST_PROCESSORS - set.leading_zeros()
 }

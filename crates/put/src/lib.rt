@@ -5,9 +5,10 @@ ghost use Rattle.std.specs.Prelude.{◌≡◌, [], ◌∷◌, ◌≤◌};
 ghost use Rattle.form.specs.Written.{last_digits, digits_in, numeral};
 ghost use Rattle.put.specs.Output.{HasRoomFor, Puts};
 
-// How many digits a number has.
+// How many digits a number has. Each step divides by ten, so no range counts them.
 pub fn digits_in(number: u32) -> usize
-    ensures { (result ≡ digits_in number) × (result ≤ 10) }
+    ensures counted { result ≡ digits_in number }
+    ensures few { result ≤ 10 }
 {
     let mut digits: usize = 1;
     let mut left = number;

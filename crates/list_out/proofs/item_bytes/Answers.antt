@@ -6,9 +6,9 @@ use Rattle.list_out.proofs.item_bytes.Goals as goal
 pub returns-then-first-last-clause-counted : goal.returns-then-first-last-clause-counted
 returns-then-first-last-clause-counted c =
     let a = c.args in
-    omega (arith, c.digits_in-size.ensures.0, c.digits_in.ensures.0, length_range a.first a.last (ne_eqb a.first a.last c.if-first-last.true))
+    omega (arith, c.digits_in-size.ensures.counted, c.digits_in.ensures.counted, length_range a.first a.last (ne_eqb a.first a.last c.if-first-last.true))
 
 pub returns-clause-counted : goal.returns-clause-counted
 returns-clause-counted c =
     let a = c.args in
-    omega (arith, c.digits_in-size.ensures.0, length-single a.first a.last (eq-eqb a.first a.last c.if-first-last.false))
+    omega (arith, c.digits_in-size.ensures.counted, length-single a.first a.last (eq-eqb a.first a.last c.if-first-last.false))
