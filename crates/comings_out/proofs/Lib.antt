@@ -1,6 +1,5 @@
 pub mod Numbers
+pub mod Fits
 pub mod Counted
-pub mod Due
 pub mod Onward
 pub mod Written
-pub mod Seen
