@@ -1,11 +1,10 @@
 -- The script of the times that are found is the one that shows the task late.
-use Rattle.std.specs.Prelude.{Ok, Err}
+use Rattle.std.specs.Prelude.{Ok, Err, Option}
 use mathlib.Core.Path.{◌≡◌, sym, ap, ◌∙◌}
 use mathlib.Core.List.{List, ◌++◌}
 use Prim.Native.Nat.{ℕ, suc, ◌+◌, ◌-◌, ◌≤◌, ◌<◌}
 use native.Mathlib.Omega.{arith}
 use lib.ListN.{length, drop}
-use borrow.Author.Tests.{ltb-true}
 use Rattle.model.specs.declared.order.Order.{Order}
 use Rattle.model.specs.declared.build.Build.{Build}
 use Rattle.model.specs.declared.build.Release.{Release}
@@ -22,8 +21,9 @@ use Rattle.comings.specs.Comings.{coming_count}
 use Rattle.comings.specs.Listed.{script_before, ComeBefore}
 use Rattle.comings.proofs.Script.{script_same, ends_with_the_last}
 use Rattle.comings.proofs.Comings.{comings_make_scripts}
-use Rattle.comings_out.specs.declared.Times.{Times}
+use Rattle.comings_out.specs.declared.Coming.{Coming}
 use Rattle.comings_out.specs.Times.{most_ticks, comings_in, TimesFit, coming_script}
+use Rattle.comings_out.proofs.Fits.{fit_some, fit_small}
 use Rattle.critical.specs.Pattern.{begin, critical_pattern}
 use Rattle.critical.specs.Late.{late_job, late_start}
 use Rattle.critical.proofs.Legal.{critical_is_legal}
@@ -34,13 +34,13 @@ use Rattle.late.proofs.Answers.{too_many, no_room, shown}
 use Rattle.late.proofs.Box.{in_its_own, begin_small}
 
 -- the tables' script has as many records as the tasks come
-pub script_counted : (o : Order) (times : Times) → WithinLimits o → TimesFit o times → length (coming_script o times) ≡ coming_count o (comings_in times)
+pub script_counted : (o : Order) (times : List (Option Coming)) → WithinLimits o → TimesFit o times → length (coming_script o times) ≡ coming_count o (comings_in times)
 script_counted o times limits fit = (comings_make_scripts o (comings_in times) most_ticks limits before).counted
   where
     before : ComeBefore o (comings_in times) most_ticks
-    before = record { some = λ task known comes. fit.some task known (ltb-true _ _ comes); early = λ task known comes. fit.small task known }
+    before = record { some = λ task known comes. fit_some o times fit task known comes; early = λ task known comes. fit_small o times fit task known }
 
-module _ (o : Order) (b : Build) (i : ℕ) (named : NamedLate o b i) (times : Times) (are : LateTimes o b i times) where
+module _ (o : Order) (b : Build) (i : ℕ) (named : NamedLate o b i) (times : List (Option Coming)) (are : LateTimes o b i times) where
   abbrev member : Members
   member = members_of b (home_of b i)
 

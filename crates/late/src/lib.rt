@@ -18,12 +18,12 @@ fn late_task(answer: Result<u32, Refusal>) -> Option<usize>
 }
 
 // The script's bytes where it has few enough records and there is room: 64, 12.
-fn show_script(order: Order, build: Build, task: usize, out: &mut [u8]) -> Result<u32, Refusal>
-    requires { NamedLate order build task }
-    ensures { ShowsScript order build task out.old result out.new }
+fn show_script(order: &Order, build: &Build, task: usize, out: &mut [u8]) -> Result<u32, Refusal>
+    requires { NamedLate order.now build.now task }
+    ensures { ShowsScript order.now build.now task out.old result out.new }
 {
     let times = late_find::late_times(order, build, task);
-    let records = comings_out::count(order, times) as usize;
+    let records = comings_out::count(order, &times) as usize;
     if Release::MOST < records {
         return Err(Refusal::OfLate(LateCause::ManyRecords));
     }
@@ -31,7 +31,7 @@ fn show_script(order: Order, build: Build, task: usize, out: &mut [u8]) -> Resul
     if out.len() < size {
         return Err(Refusal::OfCall(CallCause::Output));
     }
-    comings_out::put_script(order, times, records, out);
+    comings_out::put_script(order, &times, records, out);
     Ok(size as u32)
 }
 
@@ -44,5 +44,5 @@ pub fn late(order: &[u8], build: &[u8], out: &mut [u8]) -> Result<u32, Refusal>
     let task = late_task(checked).ok_or(Refusal::OfLate(LateCause::NotLate))?;
     let header = build::read_build_header(build);
     let taken = build::take_build(build, header);
-    show_script(read, taken.build, task, out)
+    show_script(&read, &taken.build, task, out)
 }

@@ -1,6 +1,6 @@
 -- The longest of the lower members gives B, and where B is over 0 it is the blocker.
-use Rattle.std.specs.Prelude.{Some, Option}
-use mathlib.Core.Path.{◌≡◌, sym, ap, ◌∙◌}
+use Rattle.std.specs.Prelude.{Some, None, Option}
+use mathlib.Core.Path.{◌≡◌, refl, sym, ap, ◌∙◌}
 use mathlib.Core.Bool.{Bool, true, false, ◌&&◌}
 use mathlib.Core.List.{List}
 use Prim.Native.Nat.{ℕ, suc, ◌-◌, ◌≤◌, ◌<◌, min}
@@ -24,7 +24,7 @@ use Rattle.roster.specs.Keys.{key_at}
 use Rattle.roster.specs.Rows.{RowsByNumber}
 use Rattle.critical.specs.Pattern.{longest_lower, is_at, blocks, begin}
 use Rattle.late_find.specs.declared.Longest.{Longest}
-use Rattle.late_find.specs.Found.{KeysByNumber, above, LongestBelow, besides}
+use Rattle.late_find.specs.Found.{KeysByNumber, above, longest_cost, blocker_of, is_blocker, LongestBelow, besides}
 use Rattle.late_find.proofs.Above.{above_lower}
 use Rattle.asked.specs.declared.rows.Rows.{Rows}
 
@@ -32,7 +32,7 @@ use Rattle.asked.specs.declared.rows.Rows.{Rows}
 and_turned : (a b : Bool) → (a && b) ≡ (b && a)
 and_turned a b = same_test (a && b) (b && a) (λ both. (let two = and_both a b both in both_and b a two.1 two.0)) (λ both. (let two = and_both b a both in both_and a b two.1 two.0))
 
-module _ (o : Order) (b : Build) (limits : WithinLimits o) (i : ℕ) (mine : i < o.tasks) (keys : List ℕ) (table : Rows) (r : Longest)
+module _ (o : Order) (b : Build) (limits : WithinLimits o) (i : ℕ) (mine : i < o.tasks) (keys : List ℕ) (table : Rows) (r : Option Longest)
     (keyed : KeysByNumber o b o.tasks keys) (by_number : RowsByNumber o o.tasks table) (is : LongestBelow table keys o.tasks i r) where
   abbrev B : ℕ
   B = blocking o (besides b i) i
@@ -43,37 +43,55 @@ module _ (o : Order) (b : Build) (limits : WithinLimits o) (i : ℕ) (mine : i <
   cost_here : (j : ℕ) → j < o.tasks → cost_at table j ≡ cost_of o j
   cost_here j l = (by_number.each j l).cost_is
 
-  longest_cost : r.cost - 1 ≡ B
+  pub blocking_is : longest_cost r - 1 ≡ B
   unfolding blocking
-  longest_cost =
+  blocking_is =
       ap (λ (x : ℕ). x - 1) (is.cost_is ∙ largest_same _ (λ j. only (lower o (besides b i) i j) (cost_of o j)) o.tasks
       (λ j l. ap (λ (test : Bool). only test (cost_at table j)) (lower_is j l) ∙ ap (only (lower o (besides b i) i j)) (cost_here j l)))
 
-  pub blocking_is : r.cost - min r.cost 1 ≡ B
-  blocking_is = omega (arith, longest_cost)
+  -- what costs is there
+  there : (o : Option Longest) → 0 < longest_cost o → (longest : Longest) × (o ≡ Some longest)
+  there (Some longest) some = (longest, refl)
+  there None some = absurd (omega (arith, some))
 
   module _ (some : 0 < B) where
-    cost_is : r.cost ≡ suc B
-    cost_is = omega (arith, longest_cost, some)
+    cost_is : longest_cost r ≡ suc B
+    cost_is = omega (arith, blocking_is, some)
 
-    its_own : (r.number < o.tasks) × (above (key_at keys i) (key_at keys r.number) ≡ true) × (cost_at table r.number ≡ r.cost)
-    its_own = is.its_cost (omega (arith, cost_is))
+    abbrev it : (longest : Longest) × (r ≡ Some longest)
+    it = there r (omega (arith, cost_is))
 
-    its_lower : lower o (besides b i) i r.number ≡ true
-    its_lower = sym (lower_is r.number its_own.0) ∙ its_own.1
+    abbrev number : ℕ
+    number = it.0.number
 
-    lowest_number : longest_lower o (besides b i) i ≡ Some r.number
+    its_cost : it.0.cost ≡ suc B
+    its_cost = sym (ap longest_cost it.1) ∙ cost_is
+
+    its_own : (number < o.tasks) × (above (key_at keys i) (key_at keys number) ≡ true) × (cost_at table number ≡ it.0.cost)
+    its_own = is.its_cost it.0 it.1
+
+    its_lower : lower o (besides b i) i number ≡ true
+    its_lower = sym (lower_is number its_own.0) ∙ its_own.1
+
+    lowest_number : longest_lower o (besides b i) i ≡ Some number
     unfolding longest_lower
     lowest_number =
-        smallest_at _ 0 (o.tasks - 1) r.number (omega arith) (omega (arith, its_own.0))
-        (both_and _ _ its_lower (eq-eqb _ _ (sym (cost_here r.number its_own.0) ∙ its_own.2 ∙ cost_is)))
+        smallest_at _ 0 (o.tasks - 1) number (omega arith) (omega (arith, its_own.0))
+        (both_and _ _ its_lower (eq-eqb _ _ (sym (cost_here number its_own.0) ∙ its_own.2 ∙ its_cost)))
         (λ s a l. refuted _ (λ both. (let known : s < o.tasks = omega (arith, l, its_own.0) in
         let two = and_both (lower o (besides b i) i s) (eqb (cost_of o s) (suc B)) both in
-        omega (arith, is.lowest s l (lower_is s known ∙ two.0), cost_here s known, eqb-true (cost_of o s) (suc B) two.1, cost_is))))
+        omega (arith, is.lowest it.0 it.1 s l (lower_is s known ∙ two.0), cost_here s known, eqb-true (cost_of o s) (suc B) two.1, its_cost))))
 
-    blocks_itself : (j : ℕ) → blocks o (besides b i) i j ≡ eqb j r.number
+    blocks_itself : (j : ℕ) → blocks o (besides b i) i j ≡ is_blocker (blocker_of r) j
     unfolding blocks
-    blocks_itself j = ap (◌&& is_at o (besides b i) i (longest_lower o (besides b i) i) j) (lt-ltb 0 B some) ∙ ap (λ (f : Option ℕ). is_at o (besides b i) i f j) lowest_number
+    blocks_itself j =
+        ap (◌&& is_at o (besides b i) i (longest_lower o (besides b i) i) j) (lt-ltb 0 B some) ∙ ap (λ (f : Option ℕ). is_at o (besides b i) i f j) lowest_number
+        ∙ sym (ap (λ (x : Option Longest). is_blocker (blocker_of x) j) it.1)
+
+    blocked-lower : (j : ℕ) → blocks o (besides b i) i j ≡ true → lower o (besides b i) i j ≡ true
+    blocked-lower j is_it =
+        let same : eqb j number ≡ true = sym (ap (λ (x : Option Longest). is_blocker (blocker_of x) j) it.1) ∙ sym (blocks_itself j) ∙ is_it in
+        ap (lower o (besides b i) i) (eqb-true j number same) ∙ its_lower
 
   blocks_none : B ≤ 0 → (j : ℕ) → blocks o (besides b i) i j ≡ false
   unfolding blocks
@@ -85,16 +103,16 @@ module _ (o : Order) (b : Build) (limits : WithinLimits o) (i : ℕ) (mine : i <
   begin_is = elim (dec_lt 0 B) [ yes some ↦ rw (lt-ltb 0 B some) (omega (arith, some)) | no none ↦ (let le : B ≤ 0 = omega (arith, none) in rw (le-ltb 0 B le) (omega (arith, le))) ]
 
   -- the one that comes at tick 0
-  pub blocks_is : (j : ℕ) → (eqb j r.number && ltb 0 (min B 1)) ≡ blocks o (besides b i) i j
+  pub blocks_is : (j : ℕ) → (is_blocker (blocker_of r) j && ltb 0 (min B 1)) ≡ blocks o (besides b i) i j
   blocks_is j =
-      and_turned (eqb j r.number) (ltb 0 (min B 1))
+      and_turned (is_blocker (blocker_of r) j) (ltb 0 (min B 1))
       ∙ elim (dec_lt 0 B) [
-        | yes some ↦ ap (◌&& eqb j r.number) (lt-ltb 0 (min B 1) (omega (arith, some))) ∙ sym (blocks_itself some j)
-        | no none ↦ (let le : B ≤ 0 = omega (arith, none) in ap (◌&& eqb j r.number) (le-ltb 0 (min B 1) (omega (arith, le))) ∙ sym (blocks_none le j))
+        | yes some ↦ ap (◌&& is_blocker (blocker_of r) j) (lt-ltb 0 (min B 1) (omega (arith, some))) ∙ sym (blocks_itself some j)
+        | no none ↦ (let le : B ≤ 0 = omega (arith, none) in ap (◌&& is_blocker (blocker_of r) j) (le-ltb 0 (min B 1) (omega (arith, le))) ∙ sym (blocks_none le j))
       ]
 
   pub blocks-lower : (j : ℕ) → blocks o (besides b i) i j ≡ true → lower o (besides b i) i j ≡ true
   blocks-lower j it = elim (dec_lt 0 B) [
-    | yes some ↦ ap (lower o (besides b i) i) (eqb-true j r.number (sym (blocks_itself some j) ∙ it)) ∙ its_lower some
+    | yes some ↦ blocked-lower some j it
     | no none ↦ clash (sym (blocks_none (omega (arith, none)) j) ∙ it)
   ]

@@ -1,6 +1,7 @@
 -- The named task's jobs, one after the other: what the searches' answers say of the first late one.
-use Rattle.std.specs.Prelude.{Some, None}
-use mathlib.Core.Path.{◌≡◌, sym, subst}
+use Rattle.std.specs.Prelude.{Option, Some, None}
+use Rattle.std.specs.Option.{IsSome}
+use mathlib.Core.Path.{◌≡◌, refl, sym, subst}
 use Prim.Native.Nat.{ℕ, ◌+◌, ◌-◌, ◌*◌, ◌≤◌, ◌<◌}
 use native.Mathlib.Nat.{le_trans, mul-le-mul_left, mul-le-mul_right, add-mul, one-mul, mul-one}
 use native.Mathlib.Decide.{dec_le, ℕ_discrete}
@@ -43,6 +44,10 @@ module _ (work : ℕ → ℕ) (base : ℕ) where
   unmet_next : Grows work → (C start : ℕ) → FirstMetAt (start_over work base) 0 start → UnmetBelow work (base + C + 1) (start + C)
   unfolding start_over
   unmet_next grows C start is s l = omega (arith, start_next work grows base C start (λ x k. is.earlier x (omega arith) k) s l)
+
+  pub start_some : (start : ℕ) → FirstMetAt (start_over work base) 0 start → (found : Option ℕ) → found ≡ met_by work (base + 1) horizon → IsSome found
+  start_some start is (Some w) e = refl
+  start_some start is None e = absurd (start_there start is (sym e))
 
 module _ (work : ℕ → ℕ) (B : ℕ) (task : Task) where
   -- before a job: the base of its start, where its search begins, and that every earlier job ends in time
@@ -121,3 +126,17 @@ module _ (work : ℕ → ℕ) (B : ℕ) (task : Task) where
         where
           in_time_lem : start + cost task ≤ number * task.period + task.deadline
           in_time_lem = omega (arith, (said.met_says work (base + 1) (release + task.deadline - cost task) (Some start) at-start).upto, so_far.release_is, sized.cost_most)
+
+-- before a job all is small, since the late job is still to come
+pub small : {work : ℕ → ℕ} {B : ℕ} {task : Task} {number base release from : ℕ} → SoFar work B task number base release from → Sized task → LateOver work B task → B ≤ 1_000_000
+    → (release < 1_000_000) × (base < 2_000_000) × (number < 1_000_000) × (1 ≤ cost task) × (cost task ≤ task.deadline) × (task.deadline ≤ task.period) × (task.period ≤ 1_000_000)
+small {work} {B} {task} {number} {base} {release} {from} so_far sized late few =
+    let soon = early work B task number base release from so_far sized late in (
+      soon,
+      omega (arith, base_small work B task number base release from so_far sized late, soon, few),
+      omega (arith, number_small work B task number base release from so_far sized late, soon),
+      sized.cost-least,
+      sized.cost_most,
+      sized.deadline_most,
+      sized.period_most,
+    )

@@ -1,20 +1,20 @@
 // When each task comes in the late script: the blocker, the higher members' rows, and the first late job of the named task.
 #![tactic(auto)]
 
-ghost use Rattle.std.specs.Prelude.{◌≡◌, ◌≤◌, ◌<◌, length};
+ghost use Rattle.std.specs.Prelude.{◌≡◌, ◌-◌, ◌≤◌, ◌<◌, length};
 ghost use Rattle.model.specs.Limits.{most_tasks};
 ghost use Rattle.model.specs.Rules.{Sized, WithinLimits};
 ghost use Rattle.demand.specs.Meaning.{FirstMetAt};
 ghost use Rattle.demand.specs.Over.{start_over};
 ghost use Rattle.asked.specs.Rows.{RowsFit, asked_by};
 ghost use Rattle.inspect_members.specs.Line.{HomesFew};
-ghost use Rattle.late_find.specs.Found.{KeysByNumber, above, LongestBelow, HigherNumbers, StartsFrom, LateOver, FirstLateOver, coming_by, TimedBy, NamedLate, LateTimes};
+ghost use Rattle.late_find.specs.Found.{KeysByNumber, above, longest_cost, blocker_of, is_longer, LongestBelow, HigherNumbers, StartsFrom, LateOver, FirstLateOver, coming_by, TimedBy, NamedLate, LateTimes};
 
 use asked::Rows;
-use comings_out::{NEVER, Times};
+use comings_out::{Coming, Times};
 use model::{Build, Order, Task};
 
-// A lower member with the largest C: its number, and its C, which is 0 if there is none.
+// A lower member with the largest C: its number, and its C.
 #[derive(Clone, Copy)]
 pub struct Longest {
     pub number: usize,
@@ -28,38 +28,25 @@ pub struct LateJob {
     pub start: u32,
 }
 
-// When one task comes.
-#[derive(Clone, Copy)]
-pub struct Coming {
-    pub first: u32,
-    pub last: u32,
-}
-
-// What the times of all tasks follow from: the named task, the begin, the tick at which its late job comes, the one at which that job starts, and the blocker.
+// What the times of all tasks follow from: the named task, the begin, the tick at which its late job comes, the one at which that job starts, and the blocker, if there is one.
 #[derive(Clone, Copy)]
 pub struct Late {
     pub named: usize,
     pub begin: u32,
     pub last: u32,
     pub start: u32,
-    pub blocker: usize,
+    pub blocker: Option<usize>,
 }
 
 // The tasks' keys, each at its number.
-fn keys_by_number(order: Order, build: Build) -> [u32; Order::MOST_TASKS]
-    requires { WithinLimits order × HomesFew order build }
-    ensures { KeysByNumber order build order.tasks result }
+fn keys_by_number(order: &Order, build: &Build) -> [u32; Order::MOST_TASKS]
+    requires limits { WithinLimits order.now }
+    requires homes { HomesFew order.now build.now }
+    ensures { KeysByNumber order.now build.now order.now.tasks result }
 {
-    let table = order.table;
-    let members = build.members;
-    let tasks = order.tasks as usize;
     let mut keys = [0u32; Order::MOST_TASKS];
-    let mut i: usize = 0;
-    while i < tasks {
-        let task = table[i];
-        let member = members[i];
-        keys[i] = roster::key_of(member.partition, task.deadline, i);
-        i += 1;
+    for i in 0..order.tasks as usize {
+        keys[i] = roster::key_of(build.members[i].partition, order.table[i].deadline, i);
     }
     keys
 }
@@ -68,11 +55,28 @@ fn keys_by_number(order: Order, build: Build) -> [u32; Order::MOST_TASKS]
 fn is_above(one: u32, other: u32) -> bool
     ensures { result ≡ above one other }
 {
-    if roster::home_in(one) == roster::home_in(other) {
-        one < other
-    } else {
-        false
-    }
+    roster::home_in(one) == roster::home_in(other) && one < other
+}
+
+// A cost over that of the longest so far, or the first.
+fn is_longer(cost: u32, longest: Option<Longest>) -> bool
+    ensures { result ≡ is_longer cost longest }
+{
+    longest.is_none_or(|longest| longest.cost < cost)
+}
+
+// B: the blocker's C less 1.
+fn blocking_of(longest: Option<Longest>) -> u32
+    ensures { result ≡ longest_cost longest - 1 }
+{
+    longest.map_or(0, |longest| longest.cost.saturating_sub(1))
+}
+
+// The blocker, if there is one.
+fn blocker_of(longest: Option<Longest>) -> Option<usize>
+    ensures { result ≡ blocker_of longest }
+{
+    longest.map(|longest| longest.number)
 }
 
 // The lower member with the largest C, lowest number among equals.
@@ -81,22 +85,17 @@ fn longest_below(
     keys: &[u32; Order::MOST_TASKS],
     tasks: usize,
     named: usize,
-) -> Longest
-    requires { (tasks ≤ most_tasks) × (named < tasks) }
+) -> Option<Longest>
+    requires few { tasks ≤ most_tasks }
+    requires known { named < tasks }
     ensures { LongestBelow table.now keys.now tasks named result }
 {
-    let mut longest = Longest { number: 0, cost: 0 };
-    let mut i: usize = 0;
-    while i < tasks {
-        if is_above(keys[named], keys[i]) {
-            if longest.cost < table.costs[i] {
-                longest = Longest {
-                    number: i,
-                    cost: table.costs[i],
-                };
-            }
+    let mut longest: Option<Longest> = None;
+    for i in 0..tasks {
+        let cost = table.costs[i];
+        if is_above(keys[named], keys[i]) && is_longer(cost, longest) {
+            longest = Some(Longest { number: i, cost });
         }
-        i += 1;
     }
     longest
 }
@@ -108,131 +107,123 @@ fn higher_of(
     named: usize,
     numbers: &mut [u32; Order::MOST_TASKS],
 ) -> usize
-    requires { (tasks ≤ most_tasks) × (named < tasks) × (length numbers.old ≡ most_tasks) }
+    requires few { tasks ≤ most_tasks }
+    requires known { named < tasks }
+    requires places { length numbers.old ≡ most_tasks }
     ensures { HigherNumbers keys.now tasks named numbers.new result }
 {
     let mut count: usize = 0;
-    let mut i: usize = 0;
-    while i < tasks {
+    for i in 0..tasks {
         if is_above(keys[i], keys[named]) {
             numbers[count] = i as u32;
             count += 1;
         }
-        i += 1;
     }
     count
 }
 
 // Where a search that found nothing by a tick goes on to the start.
 fn start_from(rows: &Rows, count: usize, base: u32, from: u32) -> u32
-    requires { RowsFit rows.now count × (base ≤ 3_000_000) × (from ≤ 2_000_000) × StartsFrom (asked_by rows.now count) base from }
+    requires rows_fit { RowsFit rows.now count }
+    requires small { base ≤ 3_000_000 }
+    requires near { from ≤ 2_000_000 }
+    requires starts { StartsFrom (asked_by rows.now count) base from }
     ensures { FirstMetAt (start_over (asked_by rows.now count) base) 0 result }
 {
-    let search = asked::met(rows, count, model::wide(base) + 1, from, Task::HORIZON);
-    let found = search.found;
-    match found {
-        Some(start) => start,
-        None => 0,
-    }
+    let search = asked::met(rows, count, u64::from(base) + 1, from, Task::HORIZON);
+    search.found.unwrap()
 }
 
 // Job by job, each search from the end of the job before it, up to the first that is late.
 fn late_job(rows: &Rows, count: usize, blocking: u32, task: Task) -> LateJob
-    requires { RowsFit rows.now count × (blocking ≤ 1_000_000) × Sized task × LateOver (asked_by rows.now count) blocking task }
+    requires rows_fit { RowsFit rows.now count }
+    requires small { blocking ≤ 1_000_000 }
+    requires sized { Sized task }
+    requires late { LateOver (asked_by rows.now count) blocking task }
     ensures { FirstLateOver (asked_by rows.now count) blocking task result.number result.start }
 {
+    let cost = task.cost();
     let mut base = blocking;
     let mut release: u32 = 0;
     let mut from: u32 = 0;
     let mut number: u32 = 0;
-    while release < Task::HORIZON {
-        let due = release + task.deadline - task.cost();
-        let search = asked::met(rows, count, model::wide(base) + 1, from, due);
-        let found = search.found;
-        let Some(start) = found else {
+    'jobs: loop {
+        let due = release + task.deadline - cost;
+        let search = asked::met(rows, count, u64::from(base) + 1, from, due);
+        let Some(start) = search.found else {
             return LateJob {
                 number,
                 start: start_from(rows, count, base, due + 1),
             };
         };
-        from = start + task.cost();
-        base = base + task.cost();
-        release = release + task.period;
+        from = start + cost;
+        base += cost;
+        release += task.period;
         number += 1;
     }
-    LateJob { number, start: 0 }
 }
 
 // When a task comes: the named one and the higher members from the begin on, the blocker once at tick 0, another never.
-fn comes(keys: &[u32; Order::MOST_TASKS], late: Late, task: usize) -> Coming
-    requires { (task < most_tasks) × (late.named < most_tasks) }
+fn comes(keys: &[u32; Order::MOST_TASKS], late: Late, task: usize) -> Option<Coming>
+    requires known { task < most_tasks }
+    requires named { late.named < most_tasks }
     ensures { result ≡ coming_by keys.now late task }
 {
     let named = late.named;
     if task == named {
-        return Coming {
+        return Some(Coming {
             first: late.begin,
             last: late.last,
-        };
+        });
     }
     if is_above(keys[task], keys[named]) {
-        return Coming {
+        return Some(Coming {
             first: late.begin,
             last: late.start,
-        };
+        });
     }
-    if task == late.blocker {
-        if 0 < late.begin {
-            return Coming { first: 0, last: 0 };
-        }
+    if late.blocker == Some(task) && 0 < late.begin {
+        return Some(Coming { first: 0, last: 0 });
     }
-    Coming {
-        first: NEVER,
-        last: 0,
-    }
+    None
 }
 
 // When each task comes.
 fn times_by(keys: &[u32; Order::MOST_TASKS], tasks: usize, late: Late) -> Times
-    requires { (tasks ≤ most_tasks) × (late.named < most_tasks) }
+    requires few { tasks ≤ most_tasks }
+    requires named { late.named < most_tasks }
     ensures { TimedBy keys.now tasks late result }
 {
-    let mut firsts = [0u32; Order::MOST_TASKS];
-    let mut lasts = [0u32; Order::MOST_TASKS];
-    let mut i: usize = 0;
-    while i < tasks {
-        let coming = comes(keys, late, i);
-        firsts[i] = coming.first;
-        lasts[i] = coming.last;
-        i += 1;
+    let mut times = [None; Order::MOST_TASKS];
+    for i in 0..tasks {
+        times[i] = comes(keys, late, i);
     }
-    Times { firsts, lasts }
+    times
 }
 
 // When each task comes in the script that shows the named task late.
-pub fn late_times(order: Order, build: Build, named: usize) -> Times
-    requires { NamedLate order build named }
-    ensures { LateTimes order build named result }
+pub fn late_times(order: &Order, build: &Build, named: usize) -> Times
+    requires { NamedLate order.now build.now named }
+    ensures { LateTimes order.now build.now named result }
 {
-    let table = order.table;
-    let task = table[named];
+    let task = order.table[named];
     let tasks = order.tasks as usize;
     let keys = keys_by_number(order, build);
-    let by_number = roster::row_table(order);
+    let by_number = roster::row_table(*order);
     let longest = longest_below(&by_number, &keys, tasks, named);
-    let blocking = longest.cost - model::smaller(longest.cost, 1);
+    let blocking = blocking_of(longest);
     let mut numbers = [0u32; Order::MOST_TASKS];
     let mut rows = Rows::zero();
     let count = higher_of(&keys, tasks, named, &mut numbers);
     roster::fill_rows(&by_number, &numbers, count, &mut rows);
     let job = late_job(&rows, count, blocking, task);
-    let begin = model::smaller(blocking, 1);
+    let begin = blocking.min(1);
     let late = Late {
         named,
         begin,
         last: begin + job.number * task.period,
         start: begin + job.start,
-        blocker: longest.number,
+        blocker: blocker_of(longest),
     };
     times_by(&keys, tasks, late)
 }

@@ -1,9 +1,5 @@
-use Prim.Native.Nat.{◌-◌, ◌≤◌}
 use Rattle.late_find.specs.Found.{HigherNumbers}
 use Rattle.late_find.proofs.higher_of.Given as goal
 
 abbrev pub invariant-loop-i : goal.invariant-loop-i
-invariant-loop-i l = (l.i ≤ l.tasks) × HigherNumbers l.keys l.i l.named l.numbers l.count
-
-abbrev pub decreases-loop-i : goal.decreases-loop-i
-decreases-loop-i l = l.tasks - l.i
+invariant-loop-i l = HigherNumbers l.keys l.i l.named l.numbers l.count

@@ -1,9 +1,5 @@
-use Prim.Native.Nat.{◌-◌, ◌≤◌}
 use Rattle.late_find.specs.Found.{LongestBelow}
 use Rattle.late_find.proofs.longest_below.Given as goal
 
 abbrev pub invariant-loop-i : goal.invariant-loop-i
-invariant-loop-i l = (l.i ≤ l.tasks) × LongestBelow l.table l.keys l.i l.named l.longest
-
-abbrev pub decreases-loop-i : goal.decreases-loop-i
-decreases-loop-i l = l.tasks - l.i
+invariant-loop-i l = LongestBelow l.table l.keys l.i l.named l.longest
