@@ -100,7 +100,7 @@ fn longest_below(
     longest
 }
 
-// The numbers of the higher members, and how many they are.
+// The numbers of the higher members, in the front of a table of fixed size, and how many they are.
 fn higher_of(
     keys: &[u32; Order::MOST_TASKS],
     tasks: usize,
@@ -147,6 +147,7 @@ fn late_job(rows: &Rows, count: usize, blocking: u32, task: Task) -> LateJob
     let mut release: u32 = 0;
     let mut from: u32 = 0;
     let mut number: u32 = 0;
+    // A walk by T, and by C, that ends at the late job: no range counts it.
     'jobs: loop {
         let due = release + task.deadline - cost;
         let search = asked::met(rows, count, u64::from(base) + 1, from, due);
