@@ -1,6 +1,6 @@
 -- One turn: what comes of it, by the partition that takes the task, or that none does.
 use Rattle.std.specs.Prelude.{Result, Ok, Some, None, Option}
-use mathlib.Core.Path.{◌≡◌, refl, sym, ap, ◌∙◌, subst}
+use mathlib.Core.Path.{◌≡◌, refl, sym, ap, ap₂, ◌∙◌, subst}
 use mathlib.Core.Bool.{true, false, not}
 use mathlib.Core.List.{List}
 use mathlib.Core.Logic.{◌≢◌}
@@ -20,11 +20,12 @@ use Rattle.demand.specs.Priority.{deadline_of}
 use Rattle.demand.specs.Releases.{cost_of}
 use Rattle.demand.specs.Test.{verdict}
 use Rattle.demand.proofs.Membership.{verdict_same, every_alone_passes}
+use Rattle.asked.specs.declared.rows.Rows.{Rows}
 use Rattle.asked.specs.Rows.{cost_at, deadline_at}
 use Rattle.roster.specs.Keys.{key_of, key_at, with_key}
 use Rattle.roster.specs.Lined.{Lined}
 use Rattle.roster.proofs.Lining.{lined_same, lined_with}
-use Rattle.turns.specs.Turns.{width_of, unplaced, home_at, is_unplaced, next_task}
+use Rattle.turns.specs.Turns.{Homes, width_of, unplaced, home_at, is_unplaced, next_task}
 use Rattle.turns.specs.Claims.{IsNext}
 use Rattle.turns.proofs.Turns.{next_is, none_next}
 use Rattle.fitting.specs.declared.Placing.{Placing}
@@ -32,20 +33,32 @@ use Rattle.fitting.specs.Steps.{put, open_next, refusing, told, living_in, accep
 use Rattle.fitting.proofs.Put.{one_waits, put_here, put_other, put_placed, put-unplaced, living_kept}
 use Rattle.fitting.proofs.Standing.{stands_accepted, stands_opened, alone_there}
 use Rattle.fitting.proofs.Turning.{widths, step-put, step_open, step_refuse, opening_new, opening_none}
-use Rattle.placing.specs.Known.{OpenUntil, Known, InLine, Trying, Lowest}
+use Rattle.placing.specs.declared.Line.{Line}
+use Rattle.placing.specs.Known.{OpenUntil, Known, InLine, seated, Trying, Lowest}
 use Rattle.placing.proofs.Beside.{open_more}
 use Rattle.fit.specs.Taking.{Lines, Taking, Taken}
-use Rattle.asked.specs.declared.rows.Rows.{Rows}
 
-module _ (o : Order) (table : Rows) (s : Placing) (placed : ℕ) (keys lasts worsts : List ℕ) (t : Taking o table s placed keys lasts worsts) where
-  abbrev homes : List ℕ
+module _ (o : Order) (table : Rows) (s : Placing) (line : Line) (t : Taking o table s line) where
+  abbrev keys : List ℕ
+  keys = line.keys
+
+  abbrev placed : ℕ
+  placed = line.placed
+
+  abbrev lasts : List ℕ
+  lasts = line.lasts
+
+  abbrev worsts : List ℕ
+  worsts = line.worsts
+
+  abbrev homes : Homes
   homes = s.homes
 
   pub few_tasks : o.tasks ≤ 32
   few_tasks = t.limits.tasks.1
 
-  pub idle_turn : (r : Result Placing Refusal) → next_task o homes o.tasks ≡ None → r ≡ Ok s → (keys' lasts' worsts' : List ℕ) → Taken o s placed r keys' lasts' worsts'
-  idle_turn r none e keys' lasts' worsts' =
+  pub idle_turn : (r : Result Placing Refusal) → next_task o homes o.tasks ≡ None → (after : Line) → Taken o s line r after
+  idle_turn r none after =
       let one = one_waits homes o.tasks (omega (arith, t.lines.stands.numbered.count, t.early)) in
       clash (sym (none_next o homes o.tasks none one.0 one.1) ∙ one.2)
 
@@ -56,7 +69,7 @@ module _ (o : Order) (table : Rows) (s : Placing) (placed : ℕ) (keys lasts wor
     pub task_small : i < most_tasks
     task_small = omega (arith, next.below, few_tasks)
 
-    abbrev pub trying : Trying table keys placed lasts worsts i
+    abbrev pub trying : Trying table line i
     trying =
         record {
           order = o;
@@ -67,7 +80,7 @@ module _ (o : Order) (table : Rows) (s : Placing) (placed : ℕ) (keys lasts wor
           known_task = next.below;
           waits = next.waiting;
           room = omega (arith, t.early, few_tasks);
-          line = t.lines.line;
+          in_line = t.lines.in_line;
           known = t.lines.known;
         }
 
@@ -85,8 +98,8 @@ module _ (o : Order) (table : Rows) (s : Placing) (placed : ℕ) (keys lasts wor
 
     -- the line with the task in its place
     module _ (k key : ℕ) (few : k < unplaced) (key_is : key ≡ key_of k (deadline_at table i) i) (keys' : List ℕ) (put_in : keys' ≡ overlaid (with_key key keys placed) (placed + 1) keys) where
-      abbrev homes' : List ℕ
-      homes' = set homes i k
+      abbrev homes' : Homes
+      homes' = set homes i (Some k)
 
       placed_now : not (is_unplaced homes' i) ≡ true
       placed_now = ap not (put_placed homes i k room few)
@@ -95,7 +108,7 @@ module _ (o : Order) (table : Rows) (s : Placing) (placed : ℕ) (keys lasts wor
       moved =
           lined_same o (λ j. not (is_unplaced homes j)) (λ j. not (is_unplaced homes j)) (home_at homes) (home_at homes') keys keys placed (λ j l. refl)
           (λ j l m. put_other homes i k room j (λ e. clash (ap not (sym next.waiting) ∙ ap (λ (x : ℕ). not (is_unplaced homes x)) (sym e) ∙ m)))
-          (λ r l. refl) t.lines.line
+          (λ r l. refl) t.lines.in_line
 
       put_key : (r : ℕ) → r < placed + 1 → key_at keys' r ≡ with_key (key_of (home_at homes' i) (deadline_of o i) i) keys placed r
       put_key r l =
@@ -111,32 +124,40 @@ module _ (o : Order) (table : Rows) (s : Placing) (placed : ℕ) (keys lasts wor
       pub keys_then : length keys' ≡ most_tasks
       keys_then = ap (λ (xs : List ℕ). length xs) put_in ∙ length-overlaid (with_key key keys placed) keys (placed + 1) (omega (arith, t.lines.key_places, t.early, few_tasks)) ∙ t.lines.key_places
 
+    -- the line with the task in its place, and what is known then
+    abbrev line_with : (key : ℕ) (lasts' worsts' : List ℕ) → Line
+    line_with key lasts' worsts' = record { keys = overlaid (with_key key keys placed) (placed + 1) keys; placed = placed + 1; lasts = lasts'; worsts = worsts' }
+
     -- an open partition takes it
-    pub seated : (k key : ℕ) (found : Option ℕ) (keys' lasts' worsts' : List ℕ) (r : Result Placing Refusal) → Lowest table keys placed lasts worsts i trying s.opened found lasts' worsts' → found ≡ Some k
-        → key ≡ key_of k (deadline_at table i) i → keys' ≡ overlaid (with_key key keys placed) (placed + 1) keys → r ≡ Ok (put s i k) → Taken o s placed r keys' lasts' worsts'
+    pub seated_there : (k key : ℕ) (found : Option ℕ) (tried after : Line) (r : Result Placing Refusal) → Lowest table line i trying s.opened found tried → found ≡ Some k
+        → key ≡ key_of k (deadline_at table i) i → after ≡ seated tried key → r ≡ Ok (put s i k) → Taken o s line r after
     unfolding lowest_accepting
-    seated k key found keys' lasts' worsts' r is at key_is put_in e =
+    seated_there k key found tried after r is at key_is put_in e =
         let lowest : lowest_accepting o s i ≡ Some k = sym is.answer ∙ at in
         let first = subst (Firstly (accepts o homes i) s.opened) lowest (first_says (accepts o homes i) s.opened) in
         let few : k < unplaced = omega (arith, first.below, opened_few) in
-        record {
+        let here : after ≡ line_with key tried.lasts tried.worsts =
+        put_in ∙ ap₂ (λ (ks : List ℕ) (n : ℕ). record { keys = overlaid (with_key key ks n) (n + 1) ks; placed = n + 1; lasts = tried.lasts; worsts = tried.worsts }) is.same_line.0 is.same_line.1 in
+        subst (Taken o s line r) (sym here)
+        (record {
           answer = e ∙ ap told (sym (step-put o s i turn k lowest));
-          lines = λ next_one done. (let same : put s i k ≡ next_one = cc (sym e ∙ done) in subst (λ (x : Placing). Lines o x (placed + 1) keys' lasts' worsts') same
+          lines = λ next_one done. (let same : put s i k ≡ next_one = cc (sym e ∙ done) in subst (λ (x : Placing). Lines o x (line_with key tried.lasts tried.worsts)) same
               (record {
                 stands = stands_accepted o t.limits (widths o t.limits) placed s t.lines.stands t.early i next k first.below first.holds;
-                key_places = keys_then k key few key_is keys' put_in;
-                line = line_then k key few key_is keys' put_in;
+                key_places = keys_then k key few key_is _ refl;
+                in_line = line_then k key few key_is _ refl;
                 known = is.taken k at;
               }));
-        }
+          one_more = λ next_one done. refl;
+        })
 
     -- none does: it stands alone in a new one
     module _ (worsts' : List ℕ) (put-worst : worsts' ≡ set worsts i (cost_at table i)) where
       abbrev k : ℕ
       k = s.opened
 
-      abbrev homes'' : List ℕ
-      homes'' = set homes i k
+      abbrev homes'' : Homes
+      homes'' = set homes i (Some k)
 
       alone : (j : ℕ) → j < o.tasks → j ≢ i → living_in homes'' k j ≡ false
       alone j l away = alone_there o t.limits homes k placed t.lines.stands.numbered t.early i next j l away
@@ -151,7 +172,7 @@ module _ (o : Order) (table : Rows) (s : Placing) (placed : ℕ) (keys lasts wor
       was_placed j away p = sym (put-unplaced homes i k room j away) ∙ p
 
       kept : (j : ℕ) → j < o.tasks → j ≢ i → is_unplaced homes j ≡ false → (x : ℕ) → x < o.tasks → living_in homes'' (home_at homes'' j) x ≡ living_in homes (home_at homes j) x
-      kept j l away p x lx = living_kept homes i k room next.waiting j (alone j l away) p x
+      kept j l away p x lx = living_kept homes i k room next.waiting j (alone j l away) (t.lines.known.homes_few j l p) x
 
       passing_then : (j : ℕ) → j < o.tasks → is_unplaced homes'' j ≡ false → verdict o (living_in homes'' (home_at homes'' j)) j ≡ Ok (get_or worsts' j 0)
       passing_then j l p = elim (ℕ_discrete j i) [
@@ -173,6 +194,10 @@ module _ (o : Order) (table : Rows) (s : Placing) (placed : ℕ) (keys lasts wor
           record {
             last_places = t.lines.known.last_places;
             worst_places = ap (λ (xs : List ℕ). length xs) put-worst ∙ length-set worsts i (cost_at table i) ∙ t.lines.known.worst_places;
+            homes_few = λ j l p. elim (ℕ_discrete j i) [
+              | yes e ↦ omega (arith, ap (home_at homes'') e, put_here homes i k room, opened_few)
+              | no away ↦ omega (arith, put_other homes i k room j away, t.lines.known.homes_few j l (was_placed j away p))
+            ];
             waiting = λ j l u. (let away : j ≢ i = λ e. clash (sym (put_placed homes i k room opened_few) ∙ ap (is_unplaced homes'') (sym e) ∙ u) in
                 t.lines.known.waiting j l (sym (put-unplaced homes i k room j away) ∙ u));
             near = t.lines.known.near;
@@ -180,40 +205,46 @@ module _ (o : Order) (table : Rows) (s : Placing) (placed : ℕ) (keys lasts wor
             passing = passing_then;
           }
 
-      pub alone_seated : (key : ℕ) (found : Option ℕ) (keys' : List ℕ) (r : Result Placing Refusal) → found ≡ lowest_accepting o s i → found ≡ None
-          → key ≡ key_of k (deadline_at table i) i → keys' ≡ overlaid (with_key key keys placed) (placed + 1) keys → r ≡ told (opening o s i) → Taken o s placed r keys' lasts worsts'
-      alone_seated key found keys' r lowest none key_is put_in e = elim (dec_le (width_of o i) (o.processors - s.used)) [
+      pub alone_seated : (key : ℕ) (found : Option ℕ) (r : Result Placing Refusal) → found ≡ lowest_accepting o s i → found ≡ None
+          → key ≡ key_of k (deadline_at table i) i → r ≡ told (opening o s i) → Taken o s line r (line_with key lasts worsts')
+      alone_seated key found r lowest none key_is e = elim (dec_le (width_of o i) (o.processors - s.used)) [
         | yes fits ↦ (let on : r ≡ Ok (put (open_next s (width_of o i)) i k) = e ∙ ap told (opening_new o s i fits) in
             record {
               answer = on ∙ ap told (sym (step_open o s i turn (sym lowest ∙ none) fits));
-              lines = λ next_one done. (let same : put (open_next s (width_of o i)) i k ≡ next_one = cc (sym on ∙ done) in subst (λ (x : Placing). Lines o x (placed + 1) keys' lasts worsts') same
+              lines = λ next_one done. (let same : put (open_next s (width_of o i)) i k ≡ next_one = cc (sym on ∙ done) in subst (λ (x : Placing). Lines o x (line_with key lasts worsts')) same
                   (record {
                     stands = stands_opened o t.limits (widths o t.limits) placed s t.lines.stands t.early i next (omega (arith, t.lines.stands.laid.inside));
-                    key_places = keys_then k key opened_few key_is keys' put_in;
-                    line = line_then k key opened_few key_is keys' put_in;
+                    key_places = keys_then k key opened_few key_is _ refl;
+                    in_line = line_then k key opened_few key_is _ refl;
                     known = known_then;
                   }));
+              one_more = λ next_one done. refl;
             })
         | no short ↦ (let less : o.processors - s.used < width_of o i = omega arith in
             let stop : r ≡ told (refusing s i) = e ∙ ap told (opening_none o s i less) in
             record {
               answer = stop ∙ ap told (sym (step_refuse o s i turn (sym lowest ∙ none) less));
               lines = λ next_one done. absurd (cc (sym stop ∙ done));
+              one_more = λ next_one done. refl;
             })
       ]
 
     -- what was found is an opened partition
-    pub found_few : (k : ℕ) (found : Option ℕ) (lasts' worsts' : List ℕ) → Lowest table keys placed lasts worsts i trying s.opened found lasts' worsts' → found ≡ Some k → k < 32
-    found_few k found lasts' worsts' is at =
+    pub found_few : (k : ℕ) (found : Option ℕ) (tried : Line) → Lowest table line i trying s.opened found tried → found ≡ Some k → k < 32
+    found_few k found tried is at =
         let first = subst (Firstly (accepts o homes i) s.opened) (sym is.answer ∙ at) (first_says (accepts o homes i) s.opened) in
         omega (arith, first.below, opened_few)
 
+    -- the line has room for it still
+    pub room_there : (found : Option ℕ) (tried : Line) → Lowest table line i trying s.opened found tried → (tried.placed < most_tasks) × (length tried.keys ≡ most_tasks)
+    room_there found tried is = (omega (arith, is.same_line.1, t.early, few_tasks), ap (λ (xs : List ℕ). length xs) is.same_line.0 ∙ t.lines.key_places)
+
     -- none takes it, as the search leaves what is known
-    pub none_takes : (key : ℕ) (found : Option ℕ) (keys' lasts₁ worsts₁ : List ℕ) (r : Result Placing Refusal) → Lowest table keys placed lasts worsts i trying s.opened found lasts₁ worsts₁ → found ≡ None
-        → key ≡ key_of s.opened (deadline_at table i) i → keys' ≡ overlaid (with_key key keys placed) (placed + 1) keys → r ≡ told (opening o s i)
-        → Taken o s placed r keys' lasts₁ (set worsts₁ i (cost_at table i))
+    pub none_takes : (key : ℕ) (found : Option ℕ) (tried after : Line) (r : Result Placing Refusal) → Lowest table line i trying s.opened found tried → found ≡ None
+        → key ≡ key_of s.opened (deadline_at table i) i → after ≡ seated (record { keys = tried.keys; placed = tried.placed; lasts = tried.lasts; worsts = set tried.worsts i (cost_at table i) }) key
+        → r ≡ told (opening o s i) → Taken o s line r after
     unfolding lowest_accepting
-    none_takes key found keys' lasts₁ worsts₁ r is none key_is put_in e =
-        let kept = is.refused none in
-        subst (λ (ls : List ℕ). Taken o s placed r keys' ls (set worsts₁ i (cost_at table i))) (sym kept.0)
-        (alone_seated (set worsts₁ i (cost_at table i)) (ap (λ (ws : List ℕ). set ws i (cost_at table i)) kept.1) key found keys' r is.answer none key_is put_in e)
+    none_takes key found tried after r is none key_is put_in e =
+        let here : after ≡ line_with key lasts (set worsts i (cost_at table i)) =
+        put_in ∙ ap (λ (x : Line). seated (record { keys = x.keys; placed = x.placed; lasts = x.lasts; worsts = set x.worsts i (cost_at table i) }) key) (is.refused none) in
+        subst (Taken o s line r) (sym here) (alone_seated (set worsts i (cost_at table i)) refl key found r is.answer none key_is e)

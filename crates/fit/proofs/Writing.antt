@@ -25,13 +25,23 @@ use Rattle.roster.specs.Lined.{Lined, PartFrom, part_size}
 use Rattle.roster.proofs.Runs.{run_stops}
 use Rattle.roster.proofs.Ranks.{place_in, rank_is}
 use Rattle.roster.proofs.Lining.{home_there, homes_rise, lined_part, lives_here, ranked_in, one_place}
-use Rattle.turns.specs.Turns.{home_at, is_unplaced}
+use Rattle.turns.specs.Turns.{Homes, home_at, is_unplaced}
 use Rattle.fitting.specs.Steps.{living_in}
 use Rattle.fitting.proofs.Put.{none_waits}
+use Rattle.placing.specs.declared.Line.{Line}
 use Rattle.fit.specs.Recorded.{recorded_as}
 use Rattle.fit.specs.Taking.{Recording}
 
-module _ (keys worsts : List ℕ) (tasks : ℕ) where
+module _ (line : Line) where
+  abbrev keys : List ℕ
+  keys = line.keys
+
+  abbrev worsts : List ℕ
+  worsts = line.worsts
+
+  abbrev tasks : ℕ
+  tasks = line.placed
+
   -- the records of the places before this one are written, and its partition begins at the first
   pub record Filling (members : List Member) (first home place : ℕ) : Type 0 where
     pub upto : place ≤ tasks
@@ -39,7 +49,7 @@ module _ (keys worsts : List ℕ) (tasks : ℕ) where
     pub begun : first ≤ place
     pub part : PartFrom keys tasks first home
     pub lower : (r : ℕ) → r < place → home_in (key_at keys r) ≤ home
-    pub written : (so : Recording keys worsts tasks) → (r : ℕ) → r < place → get_or members (number_at keys r) zero_member ≡ recorded_as so.order so.placing.homes (number_at keys r)
+    pub written : (so : Recording line) → (r : ℕ) → r < place → get_or members (number_at keys r) zero_member ≡ recorded_as so.order so.placing.homes (number_at keys r)
     pub untouched : (j : ℕ) → ((r : ℕ) → r < place → number_at keys r ≢ j) → get_or members j zero_member ≡ zero_member
 
   pub filling_none : (members : List Member) → members ≡ replicate most_tasks zero_member → Filling members 0 0 0
@@ -54,21 +64,21 @@ module _ (keys worsts : List ℕ) (tasks : ℕ) where
         untouched = λ j away. ap (λ (xs : List Member). get_or xs j zero_member) e ∙ get_or_alike most_tasks j zero_member;
       }
 
-  module _ (so : Recording keys worsts tasks) where
+  module _ (so : Recording line) where
     abbrev o : Order
     o = so.order
 
-    abbrev homes : List ℕ
+    abbrev homes : Homes
     homes = so.placing.homes
 
-    line : Lined o (λ j. not (is_unplaced homes j)) (home_at homes) keys tasks
-    line = subst (Lined o (λ j. not (is_unplaced homes j)) (home_at homes) keys) (sym so.all) so.lines.line
+    in_line : Lined o (λ j. not (is_unplaced homes j)) (home_at homes) keys tasks
+    in_line = so.lines.in_line
 
     pub few_tasks : tasks ≤ 32
     few_tasks = omega (arith, so.all, so.limits.tasks.1)
 
     pub number_small : (r : ℕ) → r < tasks → number_at keys r < most_tasks
-    number_small r l = omega (arith, line.within r l, so.limits.tasks.1)
+    number_small r l = omega (arith, in_line.within r l, so.limits.tasks.1)
 
     all_placed : (j : ℕ) → j < o.tasks → is_unplaced homes j ≡ false
     all_placed j l = none_waits homes o.tasks (omega (arith, so.lines.stands.numbered.count)) j l
@@ -84,7 +94,7 @@ module _ (keys worsts : List ℕ) (tasks : ℕ) where
               let other : home_in (key_at keys place) ≢ home = eqb-false _ _ e in omega (arith, is.lower r a, more, other));
           later = λ r a b. elim (ℕ_discrete r place) [
             | yes same ↦ omega (arith, ap (λ (x : ℕ). home_in (key_at keys x)) same)
-            | no away ↦ homes_rise o so.limits (λ j. not (is_unplaced homes j)) (home_at homes) keys tasks line place r (omega (arith, away)) b
+            | no away ↦ homes_rise o so.limits (λ j. not (is_unplaced homes j)) (home_at homes) keys tasks in_line place r (omega (arith, away)) b
           ];
         }
 
@@ -96,7 +106,7 @@ module _ (keys worsts : List ℕ) (tasks : ℕ) where
       i = number_at keys place
 
       pub home_is : home_at homes i ≡ h
-      home_is = sym (home_there o so.limits (λ j. not (is_unplaced homes j)) (home_at homes) keys tasks line place l)
+      home_is = sym (home_there o so.limits (λ j. not (is_unplaced homes j)) (home_at homes) keys tasks in_line place l)
 
       -- it is among those who live there
       long : place - first < part_size keys tasks first h
@@ -108,7 +118,7 @@ module _ (keys worsts : List ℕ) (tasks : ℕ) where
             let low : h ≤ home_in (key_at keys (first + x)) = part.later (first + x) (omega arith) (omega arith) in
             elim (ℕ_discrete (first + x) place) [
               | yes same ↦ absurd (stop (ap (λ (y : ℕ). home_in (key_at keys y)) same))
-              | no away ↦ absurd (omega (arith, stop, low, homes_rise o so.limits (λ j. not (is_unplaced homes j)) (home_at homes) keys tasks line (first + x) place (omega (arith, away)) l))
+              | no away ↦ absurd (omega (arith, stop, low, homes_rise o so.limits (λ j. not (is_unplaced homes j)) (home_at homes) keys tasks in_line (first + x) place (omega (arith, away)) l))
             ])
       ]
 
@@ -127,9 +137,9 @@ module _ (keys worsts : List ℕ) (tasks : ℕ) where
 
       rank_there : rank o (living_in homes (home_at homes i)) i ≡ place - first
       rank_there =
-          let lined = lined_part o so.limits (λ j. not (is_unplaced homes j)) (home_at homes) keys tasks line first h part own copied in
+          let lined = lined_part o so.limits (λ j. not (is_unplaced homes j)) (home_at homes) keys tasks in_line first h part own copied in
           let ranked = ranked_in o so.limits there (home_at homes) own (part_size keys tasks first h) h lined
-          (lives_here o so.limits (λ j. not (is_unplaced homes j)) (home_at homes) keys tasks line first h part own copied) in
+          (lives_here o so.limits (λ j. not (is_unplaced homes j)) (home_at homes) keys tasks in_line first h part own copied) in
           let back : first + (place - first) ≡ place = omega arith in
           let same : number_at own (place - first) ≡ i = ap key_number (copied (place - first) long ∙ ap (key_at keys) back) in
           ap (λ (x : ℕ). rank o (living_in homes x) i) home_is
@@ -138,7 +148,7 @@ module _ (keys worsts : List ℕ) (tasks : ℕ) where
           ∙ rank_is o there (number_at own) (part_size keys tasks first h) ranked (place - first) long
 
       worst_there : response_of (verdict o (living_in homes (home_at homes i)) i) ≡ get_or worsts i 0
-      worst_there = ap response_of (so.lines.known.passing i (line.within place l) (all_placed i (line.within place l)))
+      worst_there = ap response_of (so.lines.known.passing i (in_line.within place l) (all_placed i (in_line.within place l)))
 
       pub record_is : recorded_as o homes i ≡ record { partition = h; rank = place - first; response = get_or worsts i 0 }
       unfolding recorded_as
@@ -150,38 +160,38 @@ module _ (keys worsts : List ℕ) (tasks : ℕ) where
     -- another place has another task
     pub other_number : (r place : ℕ) → r < place → place < tasks → number_at keys r ≢ number_at keys place
     other_number r place a l e =
-        (let same = one_place o so.limits (λ j. not (is_unplaced homes j)) (home_at homes) keys tasks line r place (omega arith) l e in omega (arith, same))
+        (let same = one_place o so.limits (λ j. not (is_unplaced homes j)) (home_at homes) keys tasks in_line r place (omega arith) l e in omega (arith, same))
 
     pub no_higher : (r place : ℕ) → r < place → place < tasks → home_in (key_at keys r) ≤ home_in (key_at keys place)
-    no_higher r place a l = homes_rise o so.limits (λ j. not (is_unplaced homes j)) (home_at homes) keys tasks line r place a l
+    no_higher r place a l = homes_rise o so.limits (λ j. not (is_unplaced homes j)) (home_at homes) keys tasks in_line r place a l
 
     -- each task has a place
     pub place_there : (j : ℕ) → j < o.tasks → (r : ℕ) × (r < tasks) × (number_at keys r ≡ j)
-    place_there j l = place_in o (λ x. not (is_unplaced homes x)) (number_at keys) tasks line.sums j l (ap not (all_placed j l))
+    place_there j l = place_in o (λ x. not (is_unplaced homes x)) (number_at keys) tasks in_line.sums j l (ap not (all_placed j l))
 
     pub number_known : (r : ℕ) → r < tasks → number_at keys r < o.tasks
-    number_known r l = line.within r l
+    number_known r l = in_line.within r l
 
-module _ (keys worsts : List ℕ) (tasks : ℕ) (so : Recording keys worsts tasks) where
-  module _ (members : List Member) (first home place first' : ℕ) (is : Filling keys worsts tasks members first home place) (l : place < tasks)
-      (e : first' ≡ pick (eqb (home_in (key_at keys place)) home) first place) where
+module _ (line : Line) (so : Recording line) where
+  module _ (members : List Member) (first home place first' : ℕ) (is : Filling line members first home place) (l : place < line.placed)
+      (e : first' ≡ pick (eqb (home_in (key_at line.keys place)) home) first place) where
     abbrev number : ℕ
-    number = number_at keys place
+    number = number_at line.keys place
 
     abbrev written_now : Member
-    written_now = record { partition = home_in (key_at keys place); rank = place - first'; response = get_or worsts number 0 }
+    written_now = record { partition = home_in (key_at line.keys place); rank = place - first'; response = get_or line.worsts number 0 }
 
-    part' : PartFrom keys tasks first' (home_in (key_at keys place))
-    part' = subst (λ (x : ℕ). PartFrom keys tasks x (home_in (key_at keys place))) (sym e) (part_here keys worsts tasks so members first home place is l (eqb (home_in (key_at keys place)) home) refl)
+    part' : PartFrom line.keys line.placed first' (home_in (key_at line.keys place))
+    part' = subst (λ (x : ℕ). PartFrom line.keys line.placed x (home_in (key_at line.keys place))) (sym e) (part_here line so members first home place is l (eqb (home_in (key_at line.keys place)) home) refl)
 
     pub begun' : first' ≤ place
-    begun' = go (eqb (home_in (key_at keys place)) home) e
+    begun' = go (eqb (home_in (key_at line.keys place)) home) e
       where
         go : (b : Bool) → first' ≡ pick b first place → first' ≤ place
         go true x = omega (arith, x, is.begun)
         go false x = omega (arith, x)
 
-    pub filling_more : Filling keys worsts tasks (set members number written_now) first' (home_in (key_at keys place)) (place + 1)
+    pub filling_more : Filling line (set members number written_now) first' (home_in (key_at line.keys place)) (place + 1)
     filling_more =
         record {
           upto = omega arith;
@@ -189,30 +199,30 @@ module _ (keys worsts : List ℕ) (tasks : ℕ) (so : Recording keys worsts task
           begun = omega (arith, begun');
           part = part';
           lower = λ r a. elim (ℕ_discrete r place) [
-            | yes same ↦ omega (arith, ap (λ (x : ℕ). home_in (key_at keys x)) same)
-            | no away ↦ no_higher keys worsts tasks so r place (omega (arith, away)) l
+            | yes same ↦ omega (arith, ap (λ (x : ℕ). home_in (key_at line.keys x)) same)
+            | no away ↦ no_higher line so r place (omega (arith, away)) l
           ];
           written = λ any r a. elim (ℕ_discrete r place) [
-            | yes same ↦ subst (λ (x : ℕ). get_or (set members number written_now) (number_at keys x) zero_member ≡ recorded_as any.order any.placing.homes (number_at keys x)) (sym same)
-                (get_or-set_same members number written_now zero_member (omega (arith, number_small keys worsts tasks so place l, is.room)) ∙ sym (record_is keys worsts tasks any first' place l begun' part'))
-            | no away ↦ get_or-set_other members number (number_at keys r) written_now zero_member (other_number keys worsts tasks so r place (omega (arith, away)) l) ∙ is.written any r (omega (arith, away))
+            | yes same ↦ subst (λ (x : ℕ). get_or (set members number written_now) (number_at line.keys x) zero_member ≡ recorded_as any.order any.placing.homes (number_at line.keys x)) (sym same)
+                (get_or-set_same members number written_now zero_member (omega (arith, number_small line so place l, is.room)) ∙ sym (record_is line any first' place l begun' part'))
+            | no away ↦ get_or-set_other members number (number_at line.keys r) written_now zero_member (other_number line so r place (omega (arith, away)) l) ∙ is.written any r (omega (arith, away))
           ];
           untouched = λ j away. get_or-set_other members number j written_now zero_member (λ x. away place (omega arith) (sym x)) ∙ is.untouched j (λ r a. away r (omega arith));
         }
 
     -- as the code writes it
-    pub filling_next : (h number' : ℕ) → h ≡ home_in (key_at keys place) → number' ≡ number → Filling keys worsts tasks (set members number' (record { partition = h; rank = place - first'; response = get_or worsts number' 0 })) first' h (place + 1)
+    pub filling_next : (h number' : ℕ) → h ≡ home_in (key_at line.keys place) → number' ≡ number → Filling line (set members number' (record { partition = h; rank = place - first'; response = get_or line.worsts number' 0 })) first' h (place + 1)
     filling_next h number' at there = rw (at, there) filling_more
 
-  pub filling_all : (members : List Member) (first home place : ℕ) → Filling keys worsts tasks members first home place → tasks ≤ place
+  pub filling_all : (members : List Member) (first home place : ℕ) → Filling line members first home place → line.placed ≤ place
       → members ≡ filled (recorded_as so.order so.placing.homes) zero_member most_tasks so.order.tasks
   filling_all members first home place is le =
       ext_get_or zero_member members (filled f zero_member most_tasks n)
       (is.room ∙ sym (length-filled f zero_member most_tasks n so.limits.tasks.1))
       (λ j a. elim (dec_lt j n) [
-        | yes l ↦ (let at = place_there keys worsts tasks so j l in
+        | yes l ↦ (let at = place_there line so j l in
             ap (λ (x : ℕ). get_or members x zero_member) (sym at.2) ∙ is.written so at.0 (omega (arith, at.1)) ∙ ap f at.2 ∙ sym (filled_in f zero_member most_tasks n j l))
-        | no past ↦ is.untouched j (λ r b x. omega (arith, number_known keys worsts tasks so r (omega (arith, is.upto)), x)) ∙ sym (filled_past f zero_member most_tasks n j (omega arith))
+        | no past ↦ is.untouched j (λ r b x. omega (arith, number_known line so r (omega (arith, is.upto)), x)) ∙ sym (filled_past f zero_member most_tasks n j (omega arith))
       ])
     where
       n : ℕ

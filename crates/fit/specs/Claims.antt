@@ -1,5 +1,5 @@
 -- What the build of first fit says, in the document's words: claims, proved in proofs/Claims.antt.
-use Rattle.std.specs.Prelude.{◌≡◌, ℕ, ◌≤◌, ◌<◌, get_or, Ok, Err}
+use Rattle.std.specs.Prelude.{◌≡◌, ℕ, ◌≤◌, ◌<◌, Ok, Err}
 use Rattle.model.specs.declared.order.Order.{Order}
 use Rattle.model.specs.declared.build.Build.{Build}
 use Rattle.model.specs.declared.answer.Refusal.{Refusal}
@@ -10,6 +10,7 @@ use Rattle.model.specs.Rules.{WithinLimits}
 use Rattle.build.specs.Build.{FieldsFit}
 use Rattle.demand.specs.Priority.{members_of, rank}
 use Rattle.demand.specs.Test.{verdict}
+use Rattle.turns.specs.Turns.{home_at}
 use Rattle.fitting.specs.declared.Placing.{Placing}
 use Rattle.fitting.specs.Claims.{Placed, RefusedIn}
 use Rattle.fit.specs.Recorded.{fitted_of, build_in}
@@ -18,7 +19,7 @@ use Rattle.fit.specs.Recorded.{fitted_of, build_in}
 pub record Built (o : Order) (b : Build) : Type 0 where
   pub processors : b.processors ≡ o.processors
   pub tasks : b.tasks ≡ o.tasks
-  pub placed : (s : Placing) × (((i : ℕ) → i < o.tasks → home_of b i ≡ get_or s.homes i 0) × Placed o s.homes b.places b.partitions)
+  pub placed : (s : Placing) × (((i : ℕ) → i < o.tasks → home_of b i ≡ home_at s.homes i) × Placed o s.homes b.places b.partitions)
   pub ranks : (i : ℕ) → i < o.tasks → (member_of b i).rank ≡ rank o (members_of b (home_of b i)) i
   pub responses : (i : ℕ) → i < o.tasks → verdict o (members_of b (home_of b i)) i ≡ Ok (member_of b i).response
   pub zero_past : (i : ℕ) → o.tasks ≤ i → member_of b i ≡ zero_member

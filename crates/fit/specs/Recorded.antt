@@ -1,5 +1,5 @@
 -- "The build records the final ranks and worst responses."
-use Rattle.std.specs.Prelude.{◌≡◌, List, ℕ, Result, Ok, Err}
+use Rattle.std.specs.Prelude.{◌≡◌, ℕ, Result, Ok, Err}
 use Rattle.laws.specs.Joined.{filled}
 use Rattle.model.specs.declared.order.Order.{Order}
 use Rattle.model.specs.declared.build.Member.{Member}
@@ -8,12 +8,12 @@ use Rattle.model.specs.declared.answer.Refusal.{Refusal}
 use Rattle.model.specs.Limits.{most_tasks, zero_member, empty_build}
 use Rattle.demand.specs.Priority.{rank}
 use Rattle.demand.specs.Test.{verdict, response_of}
-use Rattle.turns.specs.Turns.{home_at}
+use Rattle.turns.specs.Turns.{Homes, home_at}
 use Rattle.fitting.specs.declared.Placing.{Placing}
 use Rattle.fitting.specs.Steps.{told, living_in, first_fit}
 
 -- task i with its partition, its rank there and its worst response
-unfoldable pub recorded_as : Order → List ℕ → ℕ → Member
+unfoldable pub recorded_as : Order → Homes → ℕ → Member
 recorded_as o homes i =
     let members = living_in homes (home_at homes i) in
     record { partition = home_at homes i; rank = rank o members i; response = response_of (verdict o members i) }

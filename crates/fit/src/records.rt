@@ -6,20 +6,17 @@ ghost use Rattle.fit.specs.Taking.{Recording, RecordsOf};
 
 use crate::taking;
 use model::{Build, Member, Order, Refusal};
+use placing::Line;
 
 // Each task's record, zero past them.
-fn records_of(
-    keys: &[u32; Order::MOST_TASKS],
-    worsts: &[u32; Order::MOST_TASKS],
-    tasks: usize,
-) -> [Member; Order::MOST_TASKS]
-    requires { Recording keys.now worsts.now tasks }
-    ensures { (so : Recording keys.now worsts.now tasks) → RecordsOf keys.now worsts.now tasks so result }
+fn records_of(line: &Line) -> [Member; Order::MOST_TASKS]
+    requires { Recording line.now }
+    ensures { (so : Recording line.now) → RecordsOf line.now so result }
 {
     let mut members = [Member::zero(); Order::MOST_TASKS];
     let mut first = 0;
     let mut home = 0;
-    for (place, key) in keys[..tasks].iter().enumerate() {
+    for (place, key) in line.keys[..line.placed].iter().enumerate() {
         // where another partition begins
         if roster::home_in(*key) != home {
             first = place;
@@ -29,7 +26,7 @@ fn records_of(
         members[number] = Member {
             partition: home,
             rank: (place - first) as u32,
-            response: worsts[number],
+            response: line.worsts[number],
         };
     }
     members
@@ -40,11 +37,10 @@ pub fn first_fit(order: &Order) -> Result<Build, Refusal>
     requires { WithinLimits order.now }
     ensures { FitsFirst order.now result }
 {
-    let mut keys = [0u32; Order::MOST_TASKS];
-    let mut worsts = [0u32; Order::MOST_TASKS];
-    let placing = taking::take_turns(order, &mut keys, &mut worsts)?;
+    let mut line = Line::empty();
+    let placing = taking::take_turns(order, &mut line)?;
     let places = placing.places;
-    let members = records_of(&keys, &worsts, order.tasks as usize);
+    let members = records_of(&line);
     Ok(Build {
         processors: order.processors,
         tasks: order.tasks,

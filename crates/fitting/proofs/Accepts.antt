@@ -1,13 +1,13 @@
 -- What it says that a partition takes a task, and that none does.
-use Rattle.std.specs.Prelude.{Ok, Err}
+use Rattle.std.specs.Prelude.{Some, Ok, Err}
 use mathlib.Core.Path.{◌≡◌, refl, sym, ap, ◌∙◌}
 use mathlib.Core.Bool.{Bool, true, false}
-use mathlib.Core.List.{List}
 use Prim.Native.Nat.{ℕ, ◌<◌}
 use lib.ListN.{set}
 use Rattle.laws.proofs.Every.{clash, every_at, every_all, every_stop}
 use Rattle.search.proofs.First.{Firstly, first_says}
 use Rattle.demand.specs.Test.{verdict, does_pass}
+use Rattle.turns.specs.Turns.{Homes}
 use Rattle.fitting.specs.Kinds.{Order, Verdict, NoWindow, NoStart, TooLate, Placing}
 use Rattle.fitting.specs.Steps.{living_in, member_passes, members_pass, accepts, lowest_accepting}
 use Rattle.fitting.specs.Claims.{AcceptsMeans}
@@ -18,7 +18,7 @@ pass_says (Err NoWindow) e = clash e
 pass_says (Err NoStart) e = clash e
 pass_says (Err TooLate) e = clash e
 
-module _ (o : Order) (homes : List ℕ) (k : ℕ) where
+module _ (o : Order) (homes : Homes) (k : ℕ) where
   pub member_of_lem : (j : ℕ) → living_in homes k j ≡ true → member_passes o homes k j ≡ does_pass (verdict o (living_in homes k) j)
   unfolding member_passes
   member_of_lem j e = rw e refl
@@ -47,8 +47,8 @@ module _ (o : Order) (homes : List ℕ) (k : ℕ) where
 pub accepts_means : AcceptsMeans
 unfolding accepts
 accepts_means o homes i k = (
-  λ e j l m. pass_says (verdict o (living_in (set homes i k) k) j) (members_say o (set homes i k) k e j l m),
-  λ each. say_members o (set homes i k) k (λ j l m. ap does_pass (each j l m).1),
+  λ e j l m. pass_says (verdict o (living_in (set homes i (Some k)) k) j) (members_say o (set homes i (Some k)) k e j l m),
+  λ each. say_members o (set homes i (Some k)) k (λ j l m. ap does_pass (each j l m).1),
 )
 
 -- the lowest partition that takes a task

@@ -11,7 +11,7 @@ use Rattle.model.specs.Rules.{WithinLimits}
 use Rattle.demand.specs.Priority.{rank}
 use Rattle.demand.specs.Test.{verdict}
 use Rattle.demand.proofs.Membership.{rank_same, verdict_same}
-use Rattle.turns.specs.Turns.{home_at, is_unplaced}
+use Rattle.turns.specs.Turns.{Homes, home_at, is_unplaced}
 use Rattle.fitting.specs.Kinds.{Order, Partition, Placing}
 use Rattle.fitting.specs.Steps.{nothing_placed, RefusedAt, going_on, refusing, living_in, turns_taken, first_fit}
 use Rattle.fitting.specs.Claims.{volume_at, Placed, FirstFitPlaces, RefusedIn, FirstFitRefuses, FirstFitEnds}
@@ -49,7 +49,7 @@ placed_all o s some is =
     in_one i l = is.numbered.in_one i l (placed i l)
 
 -- partition numbers that agree on the order's tasks
-module _ (o : Order) (a b : List ℕ) (agree : (i : ℕ) → i < o.tasks → home_at b i ≡ home_at a i) where
+module _ (o : Order) (a b : Homes) (agree : (i : ℕ) → i < o.tasks → home_at b i ≡ home_at a i) where
   pub verdict_agrees : (i : ℕ) → i < o.tasks → verdict o (living_in b (home_at b i)) i ≡ verdict o (living_in a (home_at a i)) i
   verdict_agrees i l = verdict_same o (living_in b (home_at b i)) (living_in a (home_at a i)) i (λ j m. living_same b a (home_at b i) (home_at a i) j (agree j m) (agree i l))
 

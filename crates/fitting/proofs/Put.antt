@@ -1,38 +1,42 @@
 -- A task put into a partition: its own number changes and no other, so one task fewer waits.
+use Rattle.std.specs.Prelude.{Option, Some, None, is_none, unwrap_or}
 use mathlib.Core.Path.{◌≡◌, refl, sym, ap, ap₂, ◌∙◌}
 use mathlib.Core.Bool.{Bool, true, false, ◌||◌}
-use mathlib.Core.List.{List}
 use Prim.Native.Nat.{ℕ, ◌+◌, ◌<◌}
 use native.Mathlib.Decide.{ℕ_discrete}
 use native.Mathlib.Omega.{arith}
 use lib.Dec.{eqb}
-use lib.ListN.{length, set}
+use lib.ListN.{length, get_or, set}
 use lib.Seq.{get_or-set_same, get_or-set_other}
 use borrow.Author.Tests.{eq-eqb, ne_eqb, eqb-true, eqb-false}
 use Rattle.laws.specs.Sums.{only}
-use Rattle.laws.proofs.Every.{count_each}
+use Rattle.laws.proofs.Every.{clash, count_each}
 use Rattle.laws.proofs.Sums.{sum_same, sum_in, sum_some}
 use Rattle.laws.proofs.Picked.{sum_with}
-use Rattle.turns.specs.Turns.{unplaced, home_at, is_unplaced}
+use Rattle.turns.specs.Turns.{Homes, unplaced, home_at, is_unplaced}
 use Rattle.fitting.specs.Steps.{living_in}
 use Rattle.fitting.specs.Standing.{waiting}
 
 -- what the two questions about partition numbers say
-module _ (homes : List ℕ) where
+module _ (homes : Homes) where
   pub unplaced_says : (j : ℕ) → is_unplaced homes j ≡ true → home_at homes j ≡ unplaced
   unfolding is_unplaced
-  unplaced_says j e = eqb-true _ _ e
-
-  pub placed_says : (j : ℕ) → is_unplaced homes j ≡ false → home_at homes j ≡ unplaced → ⊥
-  unfolding is_unplaced
-  placed_says j e = eqb-false _ _ e
+  unplaced_says j e = go (get_or homes j None) e
+    where
+      go : (home : Option ℕ) → is_none home ≡ true → unwrap_or home unplaced ≡ unplaced
+      go (Some k) e = clash e
+      go None e = refl
 
   pub says_placed : (j : ℕ) → home_at homes j < unplaced → is_unplaced homes j ≡ false
   unfolding is_unplaced
-  says_placed j l = ne_eqb (home_at homes j) unplaced (λ e. omega arith)
+  says_placed j l = go (get_or homes j None) l
+    where
+      go : (home : Option ℕ) → unwrap_or home unplaced < unplaced → is_none home ≡ false
+      go (Some k) l = refl
+      go None l = absurd (omega arith)
 
 -- who lives in a partition
-module _ (homes : List ℕ) (k : ℕ) where
+module _ (homes : Homes) (k : ℕ) where
   pub living_says : (j : ℕ) → living_in homes k j ≡ true → home_at homes j ≡ k
   unfolding living_in
   living_says j e = eqb-true _ _ e
@@ -50,15 +54,15 @@ module _ (homes : List ℕ) (k : ℕ) where
   says_away j e = ne_eqb _ _ e
 
 -- lists of numbers that agree say alike
-pub living_same : (a b : List ℕ) (k l j : ℕ) → home_at a j ≡ home_at b j → k ≡ l → living_in a k j ≡ living_in b l j
+pub living_same : (a b : Homes) (k l j : ℕ) → home_at a j ≡ home_at b j → k ≡ l → living_in a k j ≡ living_in b l j
 unfolding living_in
 living_same a b k l j p q = ap₂ (λ (x y : ℕ). eqb x y) p q
 
-pub all_wait : (homes : List ℕ) (n : ℕ) → ((j : ℕ) → j < n → is_unplaced homes j ≡ true) → waiting homes n ≡ n
+pub all_wait : (homes : Homes) (n : ℕ) → ((j : ℕ) → j < n → is_unplaced homes j ≡ true) → waiting homes n ≡ n
 unfolding waiting
 all_wait homes n each = count_each (is_unplaced homes) n each
 
-pub none_waits : (homes : List ℕ) (n : ℕ) → waiting homes n ≡ 0 → (j : ℕ) → j < n → is_unplaced homes j ≡ false
+pub none_waits : (homes : Homes) (n : ℕ) → waiting homes n ≡ 0 → (j : ℕ) → j < n → is_unplaced homes j ≡ false
 unfolding waiting
 none_waits homes n e j l = go (is_unplaced homes j) refl
   where
@@ -68,7 +72,7 @@ none_waits homes n e j l = go (is_unplaced homes j) refl
         absurd (omega (arith, sum_in (λ j. only (is_unplaced homes j) 1) n j l))
     go false u = u
 
-pub one_waits : (homes : List ℕ) (n : ℕ) → 0 < waiting homes n → (j : ℕ) × (j < n) × (is_unplaced homes j ≡ true)
+pub one_waits : (homes : Homes) (n : ℕ) → 0 < waiting homes n → (j : ℕ) × (j < n) × (is_unplaced homes j ≡ true)
 unfolding waiting
 one_waits homes n h =
     let r = sum_some (λ j. only (is_unplaced homes j) 1) n h in
@@ -79,43 +83,43 @@ one_waits homes n h =
     go j l false e = let none : only (is_unplaced homes j) 1 ≡ 0 = ap (λ (x : Bool). only x 1) e in absurd (omega arith)
 
 -- task i put in partition k
-module _ (homes : List ℕ) (i k : ℕ) (room : i < length homes) where
-  pub put_here : home_at (set homes i k) i ≡ k
-  put_here = get_or-set_same homes i k 0 room
+module _ (homes : Homes) (i k : ℕ) (room : i < length homes) where
+  pub put_here : home_at (set homes i (Some k)) i ≡ k
+  put_here = ap (λ (home : Option ℕ). unwrap_or home unplaced) (get_or-set_same homes i (Some k) None room)
 
-  pub put_other : (j : ℕ) → (j ≡ i → ⊥) → home_at (set homes i k) j ≡ home_at homes j
-  put_other j apart = get_or-set_other homes i j k 0 apart
+  pub put_other : (j : ℕ) → (j ≡ i → ⊥) → home_at (set homes i (Some k)) j ≡ home_at homes j
+  put_other j apart = ap (λ (home : Option ℕ). unwrap_or home unplaced) (get_or-set_other homes i j (Some k) None apart)
 
-  pub put_placed : k < unplaced → is_unplaced (set homes i k) i ≡ false
-  put_placed l = says_placed (set homes i k) i (omega (arith, put_here))
+  pub put_placed : k < unplaced → is_unplaced (set homes i (Some k)) i ≡ false
+  put_placed l = says_placed (set homes i (Some k)) i (omega (arith, put_here))
 
-  pub put-unplaced : (j : ℕ) → (j ≡ i → ⊥) → is_unplaced (set homes i k) j ≡ is_unplaced homes j
+  pub put-unplaced : (j : ℕ) → (j ≡ i → ⊥) → is_unplaced (set homes i (Some k)) j ≡ is_unplaced homes j
   unfolding is_unplaced
-  put-unplaced j apart = ap (λ (x : ℕ). eqb x unplaced) (put_other j apart)
+  put-unplaced j apart = ap (λ (home : Option ℕ). is_none home) (get_or-set_other homes i j (Some k) None apart)
 
   module _ (n : ℕ) (below : i < n) (was : is_unplaced homes i ≡ true) (open-one : k < unplaced) where
-    either : (j : ℕ) → (eqb j i || is_unplaced (set homes i k) j) ≡ is_unplaced homes j
+    either : (j : ℕ) → (eqb j i || is_unplaced (set homes i (Some k)) j) ≡ is_unplaced homes j
     either j = elim (ℕ_discrete j i) [
       | yes e ↦ rw (eq-eqb j i e) (sym was ∙ ap (is_unplaced homes) (sym e))
       | no apart ↦ rw (ne_eqb j i apart) (put-unplaced j apart)
     ]
 
     -- one fewer waits
-    pub put-waiting : waiting homes n ≡ 1 + waiting (set homes i k) n
+    pub put-waiting : waiting homes n ≡ 1 + waiting (set homes i (Some k)) n
     unfolding waiting
     put-waiting =
-        sym (sum_same (λ j. only (eqb j i || is_unplaced (set homes i k) j) 1) (λ j. only (is_unplaced homes j) 1) n (λ j l. ap (λ (x : Bool). only x 1) (either j)))
-        ∙ sum_with (is_unplaced (set homes i k)) (λ j. 1) i (put_placed open-one) n below
+        sym (sum_same (λ j. only (eqb j i || is_unplaced (set homes i (Some k)) j) 1) (λ j. only (is_unplaced homes j) 1) n (λ j l. ap (λ (x : Bool). only x 1) (either j)))
+        ∙ sum_with (is_unplaced (set homes i (Some k))) (λ j. 1) i (put_placed open-one) n below
 
   -- a placed task of another partition keeps its members
-  pub living_kept : is_unplaced homes i ≡ true → (j : ℕ) → living_in (set homes i k) k j ≡ false → is_unplaced homes j ≡ false
-      → (x : ℕ) → living_in (set homes i k) (home_at (set homes i k) j) x ≡ living_in homes (home_at homes j) x
-  living_kept waits j out placed_one x =
-      let other : home_at (set homes i k) j ≡ k → ⊥ = away_says (set homes i k) k j out in
-      let away : j ≡ i → ⊥ = λ e. other (ap (home_at (set homes i k)) e ∙ put_here) in
+  pub living_kept : is_unplaced homes i ≡ true → (j : ℕ) → living_in (set homes i (Some k)) k j ≡ false → home_at homes j < unplaced
+      → (x : ℕ) → living_in (set homes i (Some k)) (home_at (set homes i (Some k)) j) x ≡ living_in homes (home_at homes j) x
+  living_kept waits j out low x =
+      let other : home_at (set homes i (Some k)) j ≡ k → ⊥ = away_says (set homes i (Some k)) k j out in
+      let away : j ≡ i → ⊥ = λ e. other (ap (home_at (set homes i (Some k))) e ∙ put_here) in
       elim (ℕ_discrete x i) [
         | yes e ↦
-            says_away (set homes i k) (home_at (set homes i k) j) x (λ s. other (sym s ∙ ap (home_at (set homes i k)) e ∙ put_here))
-            ∙ sym (says_away homes (home_at homes j) x (λ s. placed_says homes j placed_one (sym s ∙ ap (home_at homes) e ∙ unplaced_says homes i waits)))
-        | no ne ↦ living_same (set homes i k) homes (home_at (set homes i k) j) (home_at homes j) x (put_other x ne) (put_other j away)
+            says_away (set homes i (Some k)) (home_at (set homes i (Some k)) j) x (λ s. other (sym s ∙ ap (home_at (set homes i (Some k))) e ∙ put_here))
+            ∙ sym (says_away homes (home_at homes j) x (λ s. omega (arith, low, s, ap (home_at homes) e, unplaced_says homes i waits)))
+        | no ne ↦ living_same (set homes i (Some k)) homes (home_at (set homes i (Some k)) j) (home_at homes j) x (put_other x ne) (put_other j away)
       ]

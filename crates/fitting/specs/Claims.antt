@@ -1,11 +1,11 @@
 -- What first fit's placing and refusal say, in the document's words: claims, proved in proofs/Claims.antt.
-use Rattle.std.specs.Prelude.{◌≡◌, true, false, List, ◌↔◌, ◌⊎◌, ℕ, ◌+◌, ◌≤◌, ◌<◌, get_or, set, Ok}
+use Rattle.std.specs.Prelude.{Some, ◌≡◌, true, false, List, ◌↔◌, ◌⊎◌, ℕ, ◌+◌, ◌≤◌, ◌<◌, get_or, set, Ok}
 use Rattle.laws.specs.Sums.{sum}
 use Rattle.model.specs.Limits.{zero_partition}
 use Rattle.model.specs.Processors.{volume_of}
 use Rattle.model.specs.Rules.{WithinLimits}
 use Rattle.demand.specs.Test.{verdict}
-use Rattle.turns.specs.Turns.{width_of, home_at}
+use Rattle.turns.specs.Turns.{Homes, width_of, home_at}
 use Rattle.turns.specs.Claims.{IsNext}
 use Rattle.fitting.specs.Kinds.{Order, Partition, Placing}
 use Rattle.fitting.specs.Steps.{nothing_placed, going_on, refusing, living_in, accepts, turns_taken, first_fit}
@@ -13,9 +13,9 @@ use Rattle.fitting.specs.Steps.{nothing_placed, going_on, refusing, living_in, a
 -- "it and all members there pass"
 abbrev pub AcceptsMeans : Type 0
 AcceptsMeans =
-    (o : Order) (homes : List ℕ) (i k : ℕ) →
+    (o : Order) (homes : Homes) (i k : ℕ) →
     (accepts o homes i k ≡ true)
-    ↔ ((j : ℕ) → j < o.tasks → living_in (set homes i k) k j ≡ true → (worst : ℕ) × (verdict o (living_in (set homes i k) k) j ≡ Ok worst))
+    ↔ ((j : ℕ) → j < o.tasks → living_in (set homes i (Some k)) k j ≡ true → (worst : ℕ) × (verdict o (living_in (set homes i (Some k)) k) j ≡ Ok worst))
 
 -- opened partition k, its volume and its first processor
 abbrev pub opened : List Partition → ℕ → Partition
@@ -25,7 +25,7 @@ abbrev pub volume_at : List Partition → ℕ → ℕ
 volume_at places k = volume_of (opened places k)
 
 -- the order's tasks in so many partitions: each in one that is wide enough, all pass, and no processor is shared
-pub record Placed (o : Order) (homes : List ℕ) (places : List Partition) (count : ℕ) : Type 0 where
+pub record Placed (o : Order) (homes : Homes) (places : List Partition) (count : ℕ) : Type 0 where
   pub some : 1 ≤ count
   pub few : count ≤ o.tasks
   pub in_one : (i : ℕ) → i < o.tasks → home_at homes i < count

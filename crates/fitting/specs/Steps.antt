@@ -1,21 +1,21 @@
 -- "First fit by decreasing volume", turn by turn, for the tasks of an order on its processors.
-use Rattle.std.specs.Prelude.{Bool, true, List, ℕ, zero, suc, ◌+◌, ◌-◌, leb, eqb, set, replicate, Result, Ok, Err, Option, Some, None}
+use Rattle.std.specs.Prelude.{Bool, true, ℕ, zero, suc, ◌+◌, ◌-◌, leb, eqb, set, replicate, Result, Ok, Err, Option, Some, None}
 use Rattle.laws.specs.Choice.{pick}
 use Rattle.laws.specs.Every.{every}
 use Rattle.model.specs.Limits.{most_tasks, most_partitions, zero_partition}
 use Rattle.search.specs.Smallest.{first_of}
 use Rattle.demand.specs.Priority.{Members}
 use Rattle.demand.specs.Test.{verdict, does_pass}
-use Rattle.turns.specs.Turns.{width_of, unplaced, home_at, next_task}
+use Rattle.turns.specs.Turns.{Homes, width_of, home_at, next_task}
 use Rattle.fitting.specs.Kinds.{Order, Refusal, OfCall, FirstFit, Placing}
 
 -- no task is placed, no partition is open
 abbrev pub nothing_placed : Placing
-nothing_placed = record { homes = replicate most_tasks unplaced; places = replicate most_partitions zero_partition; opened = 0; used = 0 }
+nothing_placed = record { homes = replicate most_tasks None; places = replicate most_partitions zero_partition; opened = 0; used = 0 }
 
 -- "Put each in" a partition: task i in partition k
 abbrev pub put : Placing → ℕ → ℕ → Placing
-put s i k = record { homes = set s.homes i k; places = s.places; opened = s.opened; used = s.used }
+put s i k = record { homes = set s.homes i (Some k); places = s.places; opened = s.opened; used = s.used }
 
 -- "open the next partition with volume m on the lowest unused processors"
 abbrev pub open_next : Placing → ℕ → Placing
@@ -50,20 +50,20 @@ told (Ok s) = Ok s
 told (Err at) = Err (OfCall (FirstFit at.task))
 
 -- the tasks placed in partition k
-unfoldable pub living_in : List ℕ → (k : ℕ) → Members
+unfoldable pub living_in : Homes → (k : ℕ) → Members
 living_in homes k j = eqb (home_at homes j) k
 
 -- task j passes, if it is in partition k
-unfoldable pub member_passes : Order → List ℕ → (k j : ℕ) → Bool
+unfoldable pub member_passes : Order → Homes → (k j : ℕ) → Bool
 member_passes o homes k j = pick (living_in homes k j) (does_pass (verdict o (living_in homes k) j)) true
 
 -- "all members there pass"
-unfoldable pub members_pass : Order → List ℕ → (k : ℕ) → Bool
+unfoldable pub members_pass : Order → Homes → (k : ℕ) → Bool
 members_pass o homes k = every (member_passes o homes k) o.tasks
 
 -- "it and all members there pass", once task i is put in partition k
-unfoldable pub accepts : Order → List ℕ → (i k : ℕ) → Bool
-accepts o homes i k = members_pass o (set homes i k) k
+unfoldable pub accepts : Order → Homes → (i k : ℕ) → Bool
+accepts o homes i k = members_pass o (set homes i (Some k)) k
 
 -- "the lowest-numbered partition where it and all members there pass"
 unfoldable pub lowest_accepting : Order → Placing → ℕ → Option ℕ

@@ -10,7 +10,7 @@ use model::{Build, Order, Partition};
 // Each task's partition, the opened partitions, their count, and the processors used.
 #[derive(Clone, Copy)]
 pub struct Placing {
-    pub homes: [u32; Order::MOST_TASKS],
+    pub homes: [Option<u32>; Order::MOST_TASKS],
     pub places: [Partition; Build::MOST_PARTITIONS],
     pub opened: u32,
     pub used: u32,
@@ -22,7 +22,7 @@ impl Placing {
         ensures { result ≡ nothing_placed }
     {
         Self {
-            homes: [turns::UNPLACED; Order::MOST_TASKS],
+            homes: [None; Order::MOST_TASKS],
             places: [Partition::zero(); Build::MOST_PARTITIONS],
             opened: 0,
             used: 0,
@@ -34,7 +34,7 @@ impl Placing {
         requires { task < most_tasks }
         ensures { result ≡ put_of self task partition }
     {
-        self.homes[task] = partition;
+        self.homes[task] = Some(partition);
         self
     }
 

@@ -1,5 +1,5 @@
 -- A waiting task beside the members of a partition: what its trial over their rows says of the order.
-use Rattle.std.specs.Prelude.{Ok}
+use Rattle.std.specs.Prelude.{Some, Ok}
 use mathlib.Core.Path.{◌≡◌, refl, sym, ap, ◌∙◌, subst}
 use mathlib.Core.Bool.{Bool, true, false, not, ◌&&◌}
 use mathlib.Core.List.{List}
@@ -23,6 +23,8 @@ use Rattle.demand.specs.Releases.{cost_of, work_by}
 use Rattle.demand.specs.Test.{blocking, higher_work, verdict, does_pass}
 use Rattle.demand.proofs.Membership.{verdict_same}
 use Rattle.demand.proofs.Newcomer.{blocking_more, newcomer_below}
+use Rattle.asked.specs.declared.rows.Row.{Row}
+use Rattle.asked.specs.declared.rows.Rows.{Rows}
 use Rattle.asked.specs.Rows.{cost_at, asked_by, blocking_in, RowsFit}
 use Rattle.asked.specs.Met.{UnmetBelow}
 use Rattle.trial.specs.Known.{of_rank, verdict_at, passes_at, Shielded, KnownBefore, KnownAfter}
@@ -35,13 +37,11 @@ use Rattle.roster.proofs.Line.{spot_most}
 use Rattle.roster.proofs.Ranks.{place_of}
 use Rattle.roster.proofs.Tied.{rows_fit, asked_with, blocking_is, verdict_is}
 use Rattle.roster.proofs.Lining.{number_of_key, lined_same, one_place, ranked_in, lined_with, lined_part}
-use Rattle.turns.specs.Turns.{home_at, is_unplaced}
+use Rattle.turns.specs.Turns.{Homes, unplaced, home_at, is_unplaced}
 use Rattle.fitting.specs.Steps.{living_in, accepts}
 use Rattle.fitting.proofs.Put.{unplaced_says, living_says, says_living, says_away, living_same, put_here, put_other, put-unplaced, living_kept}
 use Rattle.fitting.proofs.Accepts.{members_say, say_members}
 use Rattle.placing.specs.Known.{OpenUntil, Known, InLine}
-use Rattle.roster.proofs.Rowing.{row_alike}
-use Rattle.asked.specs.declared.rows.Rows.{Rows}
 
 not-false : (b : Bool) → not b ≡ true → b ≡ false
 not-false true e = clash e
@@ -64,9 +64,9 @@ module _ (o : Order) (before after : Members) (more : (k : ℕ) → k < o.tasks 
   open_more i last is s l = omega (arith, is s l, higher_more i s, blocking_more o before after more i)
 
 -- a partition with a newcomer: who lived there and who lives there now
-module _ (o : Order) (limits : WithinLimits o) (homes : List ℕ) (places : length homes ≡ most_tasks) (task k : ℕ) (known_task : task < o.tasks) (waits : is_unplaced homes task ≡ true) (few : k < 32) where
-  abbrev homes' : List ℕ
-  homes' = set homes task k
+module _ (o : Order) (limits : WithinLimits o) (homes : Homes) (places : length homes ≡ most_tasks) (task k : ℕ) (known_task : task < o.tasks) (waits : is_unplaced homes task ≡ true) (few : k < 32) where
+  abbrev homes' : Homes
+  homes' = set homes task (Some k)
 
   room : task < length homes
   room = omega (arith, places, limits.tasks.1)
@@ -155,7 +155,13 @@ module _ (o : Order) (limits : WithinLimits o) (homes : List ℕ) (places : leng
     pub rows_are : RowsOf o (number_at own') count rows
     rows_are r l =
         let i = number_at own' r in
-        row_alike table rows i r (task_of o i) (filled.each r l) (by_number.each i (line_now.within r l))
+        let of_task = by_number.each i (line_now.within r l) in
+        record {
+          period = ap (λ (x : Row). x.period) (filled.each r l) ∙ of_task.period;
+          cost_is = ap (λ (x : Row). x.cost) (filled.each r l) ∙ of_task.cost_is;
+          share = ap (λ (x : Row). x.share) (filled.each r l) ∙ of_task.share;
+          deadline = ap (λ (x : Row). x.deadline) (filled.each r l) ∙ of_task.deadline;
+        }
 
     few_rows : count ≤ most_tasks
     few_rows = omega arith
@@ -281,12 +287,16 @@ module _ (o : Order) (limits : WithinLimits o) (homes : List ℕ) (places : leng
         was_placed j out p = sym (put-unplaced homes task k room j (away_from j out)) ∙ p
 
         -- and its members are the same
-        same_members : (j : ℕ) → living_in homes' k j ≡ false → is_unplaced homes j ≡ false → (x : ℕ) → x < o.tasks
+        same_members : (j : ℕ) → home_at homes j < unplaced → living_in homes' k j ≡ false → (x : ℕ) → x < o.tasks
             → living_in homes' (home_at homes' j) x ≡ living_in homes (home_at homes j) x
-        same_members j out placed_one x l = living_kept homes task k room waits j out placed_one x
+        same_members j low out x l = living_kept homes task k room waits j out low x
 
         waiting_now : (j : ℕ) → j < o.tasks → is_unplaced homes' j ≡ true → living_in homes' k j ≡ false
         waiting_now j l u = says_away homes' k j (λ e. omega (arith, unplaced_says homes' j u, e))
+
+        few_now : (j : ℕ) → j < o.tasks → is_unplaced homes' j ≡ false → (b : Bool) → living_in homes' k j ≡ b → home_at homes' j < unplaced
+        few_now j l p true m = omega (arith, living_says homes' k j m, few)
+        few_now j l p false m = omega (arith, other j (away_from j m), known.homes_few j l (was_placed j m p))
 
         near_now : (j : ℕ) → j < o.tasks → (b : Bool) → living_in homes' k j ≡ b → get_or lasts' j 0 ≤ 2_000_000
         near_now j l true m =
@@ -303,7 +313,7 @@ module _ (o : Order) (limits : WithinLimits o) (homes : List ℕ) (places : leng
         open_now j l p false m =
             let was = was_placed j m p in
             subst (OpenUntil o (living_in homes' (home_at homes' j)) j) (sym (last_kept j m))
-            (open_more o (living_in homes (home_at homes j)) (living_in homes' (home_at homes' j)) (λ x lx e. same_members j m was x lx ∙ e) j (get_or lasts j 0) (known.unclosed j l was))
+            (open_more o (living_in homes (home_at homes j)) (living_in homes' (home_at homes' j)) (λ x lx e. same_members j (known.homes_few j l was) m x lx ∙ e) j (get_or lasts j 0) (known.unclosed j l was))
 
         passing_now : (j : ℕ) → j < o.tasks → is_unplaced homes' j ≡ false → (b : Bool) → living_in homes' k j ≡ b → verdict o (living_in homes' (home_at homes' j)) j ≡ Ok (get_or worsts' j 0)
         passing_now j l p true m =
@@ -313,13 +323,14 @@ module _ (o : Order) (limits : WithinLimits o) (homes : List ℕ) (places : leng
             ∙ subst (λ (x : ℕ). verdict o (living_in homes' k) x ≡ Ok (get_or worsts' x 0)) place.2 (sym (verdict_there r place.1) ∙ after.stand r place.1)
         passing_now j l p false m =
             let was = was_placed j m p in
-            verdict_same o (living_in homes' (home_at homes' j)) (living_in homes (home_at homes j)) j (same_members j m was) ∙ known.passing j l was ∙ ap Ok (sym (worst_kept j m))
+            verdict_same o (living_in homes' (home_at homes' j)) (living_in homes (home_at homes j)) j (same_members j (known.homes_few j l was) m) ∙ known.passing j l was ∙ ap Ok (sym (worst_kept j m))
 
         pub known_now : Known o homes' lasts' worsts'
         known_now =
             record {
               last_places = after.bounds.places;
               worst_places = after.places;
+              homes_few = λ j l p. few_now j l p (living_in homes' k j) refl;
               waiting = λ j l u.
                   (let out = waiting_now j l u in
                   last_kept j out ∙ known.waiting j l (sym (put-unplaced homes task k room j (away_from j out)) ∙ u));

@@ -1,6 +1,6 @@
 -- The line and the rows that a trial makes, and what its answer says.
 use Rattle.std.specs.Prelude.{Ok, Err}
-use mathlib.Core.Path.{◌≡◌, sym, ap, ◌∙◌, subst}
+use mathlib.Core.Path.{◌≡◌, refl, sym, ap, ap₂, ◌∙◌, subst}
 use mathlib.Core.Bool.{Bool, true, false}
 use mathlib.Core.List.{List}
 use Prim.Native.Nat.{ℕ, ◌+◌, ◌-◌, ◌<◌}
@@ -10,6 +10,7 @@ use Rattle.laws.specs.Joined.{overlaid}
 use Rattle.laws.proofs.Overlaid.{overlaid_in}
 use Rattle.model.specs.declared.order.Order.{Order}
 use Rattle.demand.specs.Priority.{deadline_of}
+use Rattle.asked.specs.declared.rows.Rows.{Rows}
 use Rattle.asked.specs.Rows.{RowsFit}
 use Rattle.trial.specs.Known.{KnownBefore, TriedAs}
 use Rattle.roster.specs.Keys.{key_of, home_in, key_at, lives_in, run_from, spot_for, with_key}
@@ -18,11 +19,23 @@ use Rattle.roster.specs.Lined.{part_size}
 use Rattle.roster.proofs.Lining.{home_of_key}
 use Rattle.roster.proofs.Runs.{run_most}
 use Rattle.fitting.specs.Steps.{accepts}
+use Rattle.placing.specs.declared.Line.{Line}
 use Rattle.placing.specs.Known.{TryingIn, TriedIn}
 use Rattle.placing.proofs.Beside.{newcomer_in, fit, before, answer_is, known_now}
-use Rattle.asked.specs.declared.rows.Rows.{Rows}
 
-module _ (table : Rows) (keys lasts worsts : List ℕ) (placed first key : ℕ) (so : TryingIn table keys placed first key lasts worsts) where
+module _ (table : Rows) (line : Line) (first key : ℕ) (so : TryingIn table line first key) where
+  abbrev keys : List ℕ
+  keys = line.keys
+
+  abbrev placed : ℕ
+  placed = line.placed
+
+  abbrev lasts : List ℕ
+  lasts = line.lasts
+
+  abbrev worsts : List ℕ
+  worsts = line.worsts
+
   abbrev o : Order
   o = so.trying.order
 
@@ -67,38 +80,44 @@ module _ (table : Rows) (keys lasts worsts : List ℕ) (placed first key : ℕ) 
     ready =
         let t = so.trying in
         rw (newcomer_at, counted) (
-          newcomer_in o t.limits t.homes t.places i k t.known_task t.waits so.few keys placed first t.line so.members own₁ own₂ rows table copied' put' size_small t.rows filled',
-          fit o t.limits t.homes t.places i k t.known_task t.waits so.few keys placed first t.line so.members own₁ own₂ rows table copied' put' size_small t.rows filled',
-          before o t.limits t.homes t.places i k t.known_task t.waits so.few keys placed first t.line so.members own₁ own₂ rows table copied' put' size_small t.rows filled' lasts worsts t.known,
+          newcomer_in o t.limits t.homes t.places i k t.known_task t.waits so.few keys placed first t.in_line so.members own₁ own₂ rows table copied' put' size_small t.rows filled',
+          fit o t.limits t.homes t.places i k t.known_task t.waits so.few keys placed first t.in_line so.members own₁ own₂ rows table copied' put' size_small t.rows filled',
+          before o t.limits t.homes t.places i k t.known_task t.waits so.few keys placed first t.in_line so.members own₁ own₂ rows table copied' put' size_small t.rows filled' lasts worsts t.known,
         )
+
+    -- the line with what the trial found
+    abbrev tested : (lasts' worsts' : List ℕ) → Line
+    tested lasts' worsts' = record { keys = keys; placed = placed; lasts = lasts'; worsts = worsts' }
 
     answer_of : (passes : Bool) (lasts' worsts' : List ℕ) → TriedAs rows own₂ (size + 1) lasts worsts passes lasts' worsts' → passes ≡ accepts o so.trying.homes i k
     answer_of passes lasts' worsts' is =
         let t = so.trying in
         let is' = subst (λ (s : ℕ). TriedAs rows own₂ (s + 1) lasts worsts passes lasts' worsts') counted is in
-        answer_is o t.limits t.homes t.places i k t.known_task t.waits so.few keys placed first t.line so.members own₁ own₂ rows table copied' put' size_small t.rows filled' lasts worsts t.known passes is'.all_pass
+        answer_is o t.limits t.homes t.places i k t.known_task t.waits so.few keys placed first t.in_line so.members own₁ own₂ rows table copied' put' size_small t.rows filled' lasts worsts t.known passes is'.all_pass
 
     -- the trial passes, or it does not
     pub told_takes : (passes : Bool) (lasts' worsts' : List ℕ) → TriedAs rows own₂ (size + 1) lasts worsts passes lasts' worsts' → passes ≡ true
-        → TriedIn table keys placed first key lasts worsts so (Ok tt) lasts' worsts'
+        → TriedIn table line first key so (Ok tt) (tested lasts' worsts')
     told_takes passes lasts' worsts' is pass =
         let t = so.trying in
         let is' = subst (λ (s : ℕ). TriedAs rows own₂ (s + 1) lasts worsts passes lasts' worsts') counted is in
         record {
+          same_line = (refl, refl);
           takes = λ e. sym (answer_of passes lasts' worsts' is) ∙ pass;
-          taken = λ e. known_now o t.limits t.homes t.places i k t.known_task t.waits so.few keys placed first t.line so.members own₁ own₂ rows table copied' put' size_small t.rows filled' lasts worsts t.known lasts' worsts' (is'.taken pass);
+          taken = λ e. known_now o t.limits t.homes t.places i k t.known_task t.waits so.few keys placed first t.in_line so.members own₁ own₂ rows table copied' put' size_small t.rows filled' lasts worsts t.known lasts' worsts' (is'.taken pass);
           refuses = λ n e. absurd (cc e);
           refused = λ n e. absurd (cc e);
           members = λ n e. absurd (cc e);
         }
 
     pub told_refuses : (passes : Bool) (lasts' worsts' : List ℕ) → TriedAs rows own₂ (size + 1) lasts worsts passes lasts' worsts' → passes ≡ false
-        → TriedIn table keys placed first key lasts worsts so (Err size) lasts' worsts'
+        → TriedIn table line first key so (Err size) (tested lasts' worsts')
     told_refuses passes lasts' worsts' is fail =
         record {
+          same_line = (refl, refl);
           takes = λ e. absurd (cc e);
           taken = λ e. absurd (cc e);
           refuses = λ n e. sym (answer_of passes lasts' worsts' is) ∙ fail;
-          refused = λ n e. is.refused fail;
+          refused = λ n e. ap₂ tested (is.refused fail).0 (is.refused fail).1;
           members = λ n e. (let same : size ≡ n = cc e in sym same ∙ counted);
         }

@@ -1,4 +1,4 @@
-use Rattle.std.proofs.Common.{refl, ◌∙◌}
+use Rattle.std.proofs.Common.{◌∙◌}
 use Rattle.model.proofs.Rules.{handed_on}
 use Rattle.fit.proofs.Built.{recorded_refused, recorded_done}
 use Rattle.fit.proofs.records.first_fit.Goals as goal
@@ -8,11 +8,11 @@ returns-in_err-placing c = handed_on c.from_residual.result c.from_residual.ensu
 
 pub records_of-members-requires : goal.records_of-members-requires
 records_of-members-requires c =
-    let lines = c.take_turns.ensures.lines _ c.in_ok-placing.was in
-    record { order = c.args.order.now; placing = c.in_ok-placing.placing; lasts = lines.0; limits = c.requires; all = refl; lines = lines.1 }
+    let turns = c.take_turns.ensures in
+    record { order = c.args.order.now; placing = c.in_ok-placing.placing; limits = c.requires; all = turns.all _ c.in_ok-placing.was; lines = turns.lines _ c.in_ok-placing.was }
 
 pub returns : goal.returns
 returns c =
-    let lines = c.take_turns.ensures.lines _ c.in_ok-placing.was in
+    let turns = c.take_turns.ensures in
     recorded_done _ _ c.take_turns.ensures.answer _ _ c.in_ok-placing.was
-    (c.records_of-members.ensures (record { order = c.args.order.now; placing = c.in_ok-placing.placing; lasts = lines.0; limits = c.requires; all = refl; lines = lines.1 }))
+    (c.records_of-members.ensures (record { order = c.args.order.now; placing = c.in_ok-placing.placing; limits = c.requires; all = turns.all _ c.in_ok-placing.was; lines = turns.lines _ c.in_ok-placing.was }))

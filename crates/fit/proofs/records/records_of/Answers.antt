@@ -8,7 +8,7 @@ use Rattle.fit.proofs.records.records_of.Goals as goal
 use Rattle.fit.proofs.records.records_of.Goals.{then-home_in-home, else-home_in-home}
 
 pub loop-place-init : goal.loop-place-init
-loop-place-init c = filling_none _ _ _ _ (ap (λ (x : Member). replicate 32 x) c.zero-members.ensures)
+loop-place-init c = filling_none _ _ (ap (λ (x : Member). replicate 32 x) c.zero-members.ensures)
 
 inside : (keys : List ℕ) (tasks place : ℕ) → place < length (take tasks keys) → place < tasks
 inside keys tasks place l = omega (arith, length-take tasks keys)
@@ -18,22 +18,22 @@ key_here keys tasks place l = get_or-take tasks keys place 0 (inside keys tasks 
 
 pub loop-place-preserved : goal.loop-place-preserved
 loop-place-preserved c =
-    let keys = c.args.keys.now in
+    let keys = c.args.line.now.keys in
     let place = c.loop-place.place in
-    let below : place < c.args.tasks = inside keys c.args.tasks place c.loop-place-test.true in
-    let key : get_or (take c.args.tasks keys) place 0 ≡ get_or keys place 0 = key_here keys c.args.tasks place c.loop-place-test.true in
+    let below : place < c.args.line.now.placed = inside keys c.args.line.now.placed place c.loop-place-test.true in
+    let key : get_or (take c.args.line.now.placed keys) place 0 ≡ get_or keys place 0 = key_here keys c.args.line.now.placed place c.loop-place-test.true in
     let there : c.number_in-number.result ≡ key_number (get_or keys place 0) = c.number_in-number.ensures ∙ ap key_number key in
     let home : c.home_in.result ≡ home_in (get_or keys place 0) = c.home_in.ensures ∙ ap home_in key in
     elim c.if-home_in-home.branch [
       | then-home_in-home w ↦
-          filling_next _ _ _ c.requires _ _ _ _ _ c.loop-place.invariant below (w.first-is ∙ rw (ne_eqb _ _ (λ e. w.if-home_in-home.true (home ∙ e))) refl)
+          filling_next _ c.requires _ _ _ _ _ c.loop-place.invariant below (w.first-is ∙ rw (ne_eqb _ _ (λ e. w.if-home_in-home.true (home ∙ e))) refl)
           _ _ (w.home-is ∙ w.home_in-home.ensures ∙ ap home_in key) there
       | else-home_in-home w ↦
           (let same : home_in (get_or keys place 0) ≡ c.loop-place.home = cc (home, w.if-home_in-home.false) in
-          filling_next _ _ _ c.requires _ _ _ _ _ c.loop-place.invariant below (w.first-is ∙ rw (eq-eqb _ _ same) refl)
+          filling_next _ c.requires _ _ _ _ _ c.loop-place.invariant below (w.first-is ∙ rw (eq-eqb _ _ same) refl)
           _ _ (cc (w.home-is, same)) there)
     ]
 
 pub returns : goal.returns
 returns c = λ so.
-    filling_all _ _ _ so _ _ _ _ c.loop-place.invariant (omega (arith, length-take c.args.tasks c.args.keys.now, few_tasks _ _ _ so))
+    filling_all _ so _ _ _ _ c.loop-place.invariant (omega (arith, length-take c.args.line.now.placed c.args.line.now.keys, few_tasks _ so))
