@@ -6,13 +6,12 @@ use native.Mathlib.Decide.{dec_lt, ℕ_discrete}
 use native.Mathlib.Omega.{arith}
 use lib.ListN.{length, get_or, drop}
 use lib.Seq.{ext_get_or}
-use Rattle.laws.specs.Joined.{filled, overlaid}
-use Rattle.laws.proofs.Filled.{length-filled, filled_in}
+use Rattle.laws.specs.Joined.{overlaid}
 use Rattle.laws.proofs.Overlaid.{length-overlaid, overlaid_in, overlaid_past}
 use Rattle.model.specs.declared.order.Order.{Order}
 use Rattle.model.specs.declared.build.Build.{Build}
 use Rattle.model.specs.declared.build.Release.{Release}
-use Rattle.model.specs.Limits.{most_tasks, most_partitions, most_records, zero_member, home_of}
+use Rattle.model.specs.Limits.{most_tasks, most_partitions, most_records, home_of}
 use Rattle.demand.specs.Priority.{members_of}
 use Rattle.demand.proofs.Priority.{rank_less}
 use Rattle.machine.specs.Step.{state_before}
@@ -109,25 +108,25 @@ module _ {o : Order} {b : Build} {records : ℕ} {keys durations : List ℕ} {pl
   pub prepared : {homes ranks next after oldest first : List ℕ} → OfEach homes (home_of b) → OfEach ranks (rank_of b) → LinedUp (λ k. k) so.script oldest next → LinedUp (home_of b) so.script first after
       → Prepared o b so.script keys durations homes ranks next after oldest first o.tasks b.partitions places
   prepared housed ordered by_task by_home =
-        record {
-          lined = record {
-            legal_run = legal_run_so;
-            laid = record { held = so.held; places = by_task.places; next_at = by_task.next_at };
-            rank_places = ordered.0;
-            rank_at = λ k known. ordered.1 k (omega (arith, so.few));
-            after_places = by_home.places;
-            after_at = by_home.next_at;
-          };
-          short = so.short;
-          count = refl;
-          home_places = housed.0;
-          home_at = λ k known. housed.1 k (omega (arith, so.few));
-          by_task = by_task;
-          by_home = by_home;
-          few_partitions = so.few_partitions;
-          there = so.homes;
-          room = so.room;
-        }
+      record {
+        lined = record {
+          legal_run = legal_run_so;
+          laid = record { held = so.held; places = by_task.places; next_at = by_task.next_at };
+          rank_places = ordered.0;
+          rank_at = λ k known. ordered.1 k (omega (arith, so.few));
+          after_places = by_home.places;
+          after_at = by_home.next_at;
+        };
+        short = so.short;
+        count = refl;
+        home_places = housed.0;
+        home_at = λ k known. housed.1 k (omega (arith, so.few));
+        by_task = by_task;
+        by_home = by_home;
+        few_partitions = so.few_partitions;
+        there = so.homes;
+        room = so.room;
+      }
 
 module _ {o : Order} {b : Build} {script : List Release} {keys durations homes ranks next after oldest first : List ℕ} {tasks partitions places : ℕ}
     (so : Prepared o b script keys durations homes ranks next after oldest first tasks partitions places) where

@@ -1,2 +1,3 @@
 pub mod Ahead
 pub mod Course
+pub mod Tables

@@ -13,7 +13,7 @@ use chains::{line_up, oldest_of};
 use model::{Build, Order, Release};
 use std::array;
 use stepper::{Machine, NO_RECORD};
-use turns::run_partition;
+use turns::Tables;
 
 // Before tick 0.
 fn begin(oldest: [u16; Order::MOST_TASKS], ahead: u16) -> Machine
@@ -49,16 +49,15 @@ pub fn run_all(
     let mut after = [0u16; Release::MOST];
     let oldest = line_up(keys, records, &own, &mut next);
     let first = line_up(keys, records, &homes, &mut after);
+    let tables = Tables {
+        keys,
+        durations,
+        ranks: &ranks,
+        next: &next,
+        after: &after,
+    };
     for partition in 0..build.partitions {
         let heads = oldest_of(&oldest, &homes, &ranks, tasks, partition);
-        run_partition(
-            begin(heads, first[partition as usize]),
-            keys,
-            durations,
-            &ranks,
-            &next,
-            &after,
-            out,
-        );
+        tables.run(begin(heads, first[partition as usize]), out);
     }
 }

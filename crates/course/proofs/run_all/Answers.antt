@@ -1,9 +1,9 @@
 use borrow.Author.Rules.{rules}
-use Prim.Native.Nat.{ℕ, ◌<◌}
-use mathlib.Core.Path.{◌≡◌, sym, ap, ◌∙◌}
+use Prim.Native.Nat.{ℕ}
+use mathlib.Core.Path.{sym, ap, ◌∙◌}
 use mathlib.Core.List.{List, ◌++◌}
 use native.Mathlib.Omega.{arith}
-use lib.ListN.{length, get_or, drop}
+use lib.ListN.{get_or, drop}
 use Rattle.model.specs.Limits.{zero_member, home_of}
 use Rattle.finish.specs.Finish.{finish_ticks}
 use Rattle.stepper.specs.Lines.{record_task}
@@ -29,8 +29,8 @@ loop-partition-init c = λ so.
 pub oldest_of-heads-requires : goal.oldest_of-heads-requires
 oldest_of-heads-requires c = heads_from (c.loop-partition.invariant c.requires).0
 
-pub run_partition-requires : goal.run_partition-requires
-run_partition-requires c =
+pub run-requires : goal.run-requires
+run-requires c =
     let so = c.requires in
     let was = c.loop-partition.invariant so in
     begins was.0 c.loop-partition.partition c.loop-partition-test.true c.begin.result (c.begin.ensures ∙ ap (λ (xs : List ℕ). first_machine xs (get_or c.line_up-first.result c.loop-partition.partition 0)) c.oldest_of-heads.ensures) _ was.1.places
@@ -39,7 +39,7 @@ pub loop-partition-preserved : goal.loop-partition-preserved
 loop-partition-preserved c = λ so.
     let was = c.loop-partition.invariant so in
     let begun = begins was.0 c.loop-partition.partition c.loop-partition-test.true c.begin.result (c.begin.ensures ∙ ap (λ (xs : List ℕ). first_machine xs (get_or c.line_up-first.result c.loop-partition.partition 0)) c.oldest_of-heads.ensures) _ was.1.places in
-    (was.0, ran_more c.args.order c.args.build so.script c.args.out.now c.loop-partition.partition c.loop-partition.out _ was.1 (c.run_partition.ensures begun))
+    (was.0, ran_more c.args.order c.args.build so.script c.args.out.now c.loop-partition.partition c.loop-partition.out _ was.1 (c.run.ensures begun))
 
 pub returns : goal.returns
 returns c = λ so.

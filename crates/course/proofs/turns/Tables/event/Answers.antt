@@ -6,17 +6,17 @@ use borrow.Author.Tests.{ltb-true}
 use Rattle.stepper.specs.declared.Machine.{Machine}
 use borrow.Author.Tests.{lt-ltb, le-ltb}
 use native.Mathlib.Omega.{arith}
-use Rattle.course.proofs.turns.event.Goals as goal
+use Rattle.course.proofs.turns.Tables.event.Goals as goal
 
 ahead-few : (m : Machine) → 1024 ≤ m.job → goes_on m ≡ true → m.ahead < 1024
 unfolding goes_on
 ahead-few m free on = ltb-true m.ahead 1024 (rw (le-ltb m.job 1024 free) at on)
 
-pub offset_bounds-keys-m : goal.offset_bounds-keys-m
-offset_bounds-keys-m c = record { fits = omega (arith, ahead-few c.args.m c.if-m-lt-NO_RECORD.false c.requires.1) }
+pub offset_bounds-self-m : goal.offset_bounds-self-m
+offset_bounds-self-m c = record { fits = omega (arith, ahead-few c.args.m c.if-m-lt-NO_RECORD.false c.requires.1) }
 
-pub bounds-keys-m : goal.bounds-keys-m
-bounds-keys-m c = ahead-few c.args.m c.if-m-lt-NO_RECORD.false c.requires.1
+pub bounds-self-m : goal.bounds-self-m
+bounds-self-m c = ahead-few c.args.m c.if-m-lt-NO_RECORD.false c.requires.1
 
 pub returns-then-m-lt-NO_RECORD : goal.returns-then-m-lt-NO_RECORD
 unfolding event_of

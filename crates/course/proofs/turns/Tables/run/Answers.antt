@@ -2,7 +2,7 @@ use mathlib.Core.Path.{sym, ◌∙◌, subst}
 use native.Mathlib.Omega.{arith}
 use Rattle.course.proofs.Turning.{job_runs, ends_soon}
 use Rattle.course.proofs.Done.{NotedSo, noted_none, noted_more, noted_all, turns_now}
-use Rattle.course.proofs.turns.run_partition.Goals as goal
+use Rattle.course.proofs.turns.Tables.run.Goals as goal
 
 pub loop-m-init : goal.loop-m-init
 loop-m-init c = λ so. (so.turns.so_far, noted_none so.turns.lined.legal_run so.turns.short so.turns.partition c.args.start c.args.out.now so.none_started)

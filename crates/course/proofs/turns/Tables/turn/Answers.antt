@@ -1,6 +1,6 @@
 use native.Mathlib.Omega.{arith}
 use Rattle.course.proofs.Turning.{ends_soon, event_soon, gathers_before, gathers_due, ready_so, turned_so}
-use Rattle.course.proofs.turns.turn.Goals as goal
+use Rattle.course.proofs.turns.Tables.turn.Goals as goal
 
 pub event-tick-requires : goal.event-tick-requires
 event-tick-requires c = (ends_soon c.requires.0.lined.legal_run c.requires.0.short c.requires.0.partition c.args.m c.requires.0.so_far.follows c.requires.0.so_far.soon, c.requires.1, c.requires.0.lined.laid.held.sizes.0)
