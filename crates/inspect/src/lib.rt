@@ -22,10 +22,10 @@ fn judge_records(order: &Order, build: &Build) -> Result<(), Refusal>
     ensures { result ≡ given tt (first_broken 0 (build_record_rules order.now build.now)) }
 {
     inspect_places::judge_places(order, build)?;
-    inspect_members::judge_widths(*order, *build)?;
-    let keys = inspect_members::line_up(*order, *build);
-    inspect_members::judge_ranks(*order, *build, keys)?;
-    inspect_tests::judge_tests(*order, *build, keys)
+    inspect_members::judge_widths(order, build)?;
+    let keys = inspect_members::line_up(order, build);
+    inspect_members::judge_ranks(order, build, &keys)?;
+    inspect_tests::judge_tests(order, build, &keys)
 }
 
 // 20 to 30, of an order that was read; and the build.

@@ -185,23 +185,23 @@ fn first_wrong(
 
 // Task by task 27 to 30; 28 never comes, since a window gives every start.
 pub fn judge_tests(
-    order: Order,
-    build: Build,
-    keys: [u32; Order::MOST_TASKS],
+    order: &Order,
+    build: &Build,
+    keys: &[u32; Order::MOST_TASKS],
 ) -> Result<(), Refusal>
-    requires { WithinLimits order × LineOf order build keys × RanksRecorded order build }
-    ensures { result ≡ given tt (first_broken 0 (test_rules order build)) }
+    requires { WithinLimits order.now × LineOf order.now build.now keys.now × RanksRecorded order.now build.now }
+    ensures { result ≡ given tt (first_broken 0 (test_rules order.now build.now)) }
 {
     let tasks = order.tasks as usize;
-    let table = roster::row_table(order);
-    let results = test_all(&table, &keys, tasks);
+    let table = roster::row_table(*order);
+    let results = test_all(&table, keys, tasks);
     let Some(i) = first_wrong(&build.members, &results.worsts, tasks) else {
         return Ok(());
     };
     if results.worsts[i].is_some() {
         return Err(Refusal::OfBuild(BuildCause::Response(i as u16)));
     }
-    if window_there(&table, &keys, tasks, build.members[i], results.lasts[i]) {
+    if window_there(&table, keys, tasks, build.members[i], results.lasts[i]) {
         return Err(Refusal::OfBuild(BuildCause::Late(i as u16)));
     }
     Err(Refusal::OfBuild(BuildCause::Window(i as u16)))
