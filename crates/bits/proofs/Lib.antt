@@ -1,2 +1,3 @@
 pub mod Field
 pub mod Records
+pub mod Written

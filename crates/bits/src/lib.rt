@@ -1,9 +1,13 @@
 // Fields of bits in bytes, most significant bit first: taken front to back by a cursor, and written.
 #![tactic(auto)]
 
+mod record;
+
 ghost use Rattle.std.specs.Prelude.{◌≡◌, ◌++◌, ◌+◌, ◌*◌, ◌^◌, ◌≤◌, ◌<◌, length, get_or, drop};
 ghost use Rattle.bits.specs.Field.{field};
 ghost use Rattle.bits.specs.Layout.{packed};
+
+pub use record::{Record, put_records};
 
 // The next bit to take.
 #[derive(Clone, Copy)]
@@ -11,23 +15,11 @@ pub struct Cursor {
     pub at: usize,
 }
 
-#[derive(Clone, Copy)]
-pub struct Taken {
-    pub value: u32,
-    pub next: Cursor,
-}
-
-fn wide(x: u8) -> u64
-    ensures { (result ≡ x) × (result < 256) }
-{
-    x as u64
-}
-
 // Past the end every byte is 0.
 fn byte_at(s: &[u8], i: usize) -> u64
     ensures { (result ≡ get_or s.now i 0) × (result < 256) }
 {
-    if i < s.len() { wide(s[i]) } else { 0 }
+    u64::from(s.get(i).copied().unwrap_or(0))
 }
 
 // Some whole bytes as one number, zero past the end.
@@ -36,10 +28,8 @@ pub fn number_at(s: &[u8], from: usize, count: usize) -> u64
     ensures { result ≡ field s.now (8 * from) (8 * count) }
 {
     let mut number: u64 = 0;
-    let mut i: usize = 0;
-    while i < count {
+    for i in 0..count {
         number = number * 256 + byte_at(s, from + i);
-        i += 1;
     }
     number
 }
@@ -53,22 +43,19 @@ fn values(width: usize) -> u64
 }
 
 impl Cursor {
-    // The field of so many bits at the cursor, and the cursor past it.
-    pub fn take(self, s: &[u8], width: usize) -> Taken
-        requires { (self.at ≤ 1_000_000) × (width ≤ 32) }
-        ensures { (result.value ≡ field s.now self.at width) × (result.next.at ≡ self.at + width) }
+    // The field of so many bits at the cursor, which moves past it.
+    pub fn take(&mut self, s: &[u8], width: usize) -> u32
+        requires { (self.old.at ≤ 1_000_000) × (width ≤ 32) }
+        ensures value { result ≡ field s.now self.old.at width }
+        ensures past { self.new.at ≡ self.old.at + width }
     {
-        let at = self.at;
-        let end = at + width;
-        let from = at / 8;
-        let count = (end + 7) / 8 - from;
+        let end = self.at + width;
+        let from = self.at / 8;
+        let count = end.div_ceil(8) - from;
         let past = 8 * (from + count) - end;
         let number = number_at(s, from, count);
-        let value = (number >> past) % values(width);
-        Taken {
-            value: value as u32,
-            next: Cursor { at: end },
-        }
+        self.at = end;
+        ((number >> past) % values(width)) as u32
     }
 }
 
@@ -78,10 +65,8 @@ pub fn put_number(out: &mut [u8], count: usize, number: u64)
     ensures { out.new ≡ packed count number ++ drop count out.old }
 {
     let mut left = number;
-    let mut i = count;
-    while 0 < i {
-        i -= 1;
+    for i in (0..count).rev() {
         out[i] = (left % 256) as u8;
-        left = left / 256;
+        left /= 256;
     }
 }

@@ -16,10 +16,10 @@ use Rattle.model.specs.declared.answer.OrderCause.TheVariants.{TaskSpare}
 use Rattle.model.specs.Limits.{most_tasks, most_processors}
 use Rattle.model.specs.Layouts.{order_header, order_length}
 use Rattle.model.specs.Rules.{Fact, first_broken, given, AllKept, TestsTell, InRange, equal, range_rules}
-use Rattle.model.proofs.Rules.{AllPass, done_pass, pass_done, pass_append, pass_kept, pass_on, stop, given_done, given_refused, refused_given, done_given, each_none, each_more, each_stop, scan_at, tell_append, tell_all, tell_one, each_rule, equal_tells, at_most_tells, in_range_tells}
+use Rattle.model.proofs.Rules.{AllPass, scan_none, scan_more, scan_stop, done_pass, pass_done, pass_append, pass_kept, pass_on, stop, given_done, given_refused, refused_given, done_given, scan_at, tell_append, tell_all, tell_one, each_rule, equal_tells, at_most_tells, in_range_tells}
 use Rattle.model.proofs.Ranges.{range_tells}
 use Rattle.order.specs.declared.Header.{Header}
-use Rattle.order.specs.Order.{header_of, task_spare_at, order_at, header_rules, spare_rules, layout_rules, order_rules, refused_reading, read_order, table_read, order_read}
+use Rattle.order.specs.Order.{header_of, task_at, task_spare_at, task_spare_rules, task_read, order_at, header_rules, spare_rules, layout_rules, order_rules, refused_reading, read_order, table_read, order_read}
 
 -- the scan of the tasks' spare bits
 module _ (s : List ℕ) where
@@ -29,17 +29,26 @@ module _ (s : List ℕ) where
   abbrev refusal : ℕ → Refusal
   refusal i = OfOrder (TaskSpare i)
 
+  -- a task's record read
+  pub task_done : (i : ℕ) → task_spare_at s i ≡ 0 → task_read s i ≡ Ok (task_at s i)
+  unfolding first_broken
+  task_done i e = given_done (task_at s i) {count = 0} _ (rw (eq-eqb _ _ e))
+
+  pub task_stops : (i : ℕ) → (task_spare_at s i ≡ 0 → ⊥) → task_read s i ≡ Err (refusal i)
+  unfolding first_broken
+  task_stops i e = given_refused (task_at s i) _ (rw (ne_eqb _ _ e))
+
   pub spare_none : AllPass (spare_rules s 0)
   unfolding spare_rules
-  spare_none = each_none spare refusal
+  spare_none = scan_none (task_spare_rules s)
 
-  pub spare_more : (i : ℕ) → AllPass (spare_rules s i) → task_spare_at s i ≡ 0 → AllPass (spare_rules s (i + 1))
+  pub spare_more : (i : ℕ) {task : Task} → AllPass (spare_rules s i) → task_read s i ≡ Ok task → AllPass (spare_rules s (i + 1))
   unfolding spare_rules
-  spare_more i all e = each_more spare refusal i all (eq-eqb _ _ e)
+  spare_more i all e = scan_more (task_spare_rules s) i all (done_pass 0 _ (done_given (task_at s i) _ e).1)
 
-  pub spare_stop : (tasks i : ℕ) → i < tasks → AllPass (spare_rules s i) → (task_spare_at s i ≡ 0 → ⊥) → first_broken 0 (spare_rules s tasks) ≡ Err (OfOrder (TaskSpare i))
+  pub spare_stop : (tasks i : ℕ) {refusal : Refusal} → i < tasks → AllPass (spare_rules s i) → task_read s i ≡ Err refusal → table_read s tasks ≡ Err refusal
   unfolding spare_rules
-  spare_stop tasks i below all e = each_stop spare refusal 0 tasks i below all (ne_eqb _ _ e)
+  spare_stop tasks i {refusal} below all e = given_refused _ _ (scan_stop (task_spare_rules s) 0 tasks i refusal below all (refused_given (task_at s i) _ e))
 
   pub spare_at_lem : (tasks : ℕ) → AllPass (spare_rules s tasks) → (i : ℕ) → i < tasks → task_spare_at s i ≡ 0
   unfolding spare_rules AllPass

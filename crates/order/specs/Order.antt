@@ -79,9 +79,13 @@ header_rules size header =
     ∷ rule (equal header.spare 0) (OfOrder HeaderSpare)
     ∷ []
 
+-- 6 of a task
+abbrev pub task_spare_rules : List ℕ → ℕ → List Rule
+task_spare_rules s i = rule (equal (task_spare_at s i) 0) (OfOrder (TaskSpare i)) ∷ []
+
 -- "6 over the whole order, header first and then the lowest task"
 unfoldable pub spare_rules : List ℕ → (tasks : ℕ) → List Rule
-spare_rules s tasks = joined (λ i. rule (equal (task_spare_at s i) 0) (OfOrder (TaskSpare i)) ∷ []) tasks
+spare_rules s tasks = joined (task_spare_rules s) tasks
 
 -- "1 to 6 in turn"
 unfoldable pub layout_rules : List ℕ → List Rule
@@ -90,6 +94,10 @@ layout_rules s = header_rules (length s) (header_of s) ++ spare_rules s (header_
 -- "then task by task 7 to 10"
 unfoldable pub order_rules : List ℕ → List Rule
 order_rules s = layout_rules s ++ range_rules (order_at s)
+
+-- the task of a record, or 6 where a spare bit of it is set
+abbrev pub task_read : List ℕ → ℕ → Result Task Refusal
+task_read s i = given (task_at s i) (first_broken 0 (task_spare_rules s i))
 
 -- the table of so many tasks' records, or 6 of the lowest task that breaks it
 abbrev pub table_read : List ℕ → (tasks : ℕ) → Result (List Task) Refusal

@@ -2,18 +2,12 @@
 use Rattle.std.specs.Prelude.{ℕ, ◌+◌, ◌≡◌, List}
 use Rattle.bits.specs.Field.{field}
 use Rattle.bits.specs.Layout.{bits_in}
-use Rattle.bits.specs.declared.Taken.{Taken}
 use Rattle.model.specs.Layouts.{order_header, task_record}
-use Rattle.order.specs.declared.TaskTaken.{TaskTaken}
-use Rattle.order.specs.Order.{task_start, task_at, task_spare_at}
+use Rattle.order.specs.Order.{task_start}
 
 -- a field, and then the next one begins
-abbrev pub TakesField : List ℕ → ℕ → ℕ → Taken → Type 0
-TakesField s at width taken = (taken.value ≡ field s at width) × (taken.next.at ≡ at + width)
-
--- where a task's record begins: the task, its spare bits, and then the next task's record begins
-abbrev pub TakesTask : List ℕ → ℕ → TaskTaken → Type 0
-TakesTask s at taken = (i : ℕ) → at ≡ task_start i → (taken.task ≡ task_at s i) × (taken.spare ≡ task_spare_at s i) × (taken.next ≡ task_start (i + 1))
+abbrev pub TakesField : List ℕ → (at width value next : ℕ) → Type 0
+TakesField s at width value next = (value ≡ field s at width) × (next ≡ at + width)
 
 -- the first task's record begins where the header ends, and each next one where the one before ends
 abbrev pub FrontToBack : Type 0

@@ -3,14 +3,13 @@
 
 mod reader;
 
-ghost use Rattle.std.specs.Prelude.{◌≡◌, ◌≤◌, ◌<◌, ◌^◌};
+ghost use Rattle.std.specs.Prelude.{◌≡◌, ◌+◌, ◌≤◌, ◌<◌, ◌^◌};
 ghost use Rattle.model.specs.Limits.{most_tasks};
 ghost use Rattle.model.specs.Rules.{first_broken, given};
-ghost use Rattle.order.specs.Order.{task_start, header_of, header_rules, table_read, order_read, Reads};
-ghost use Rattle.order.specs.Taken.{TakesTask};
+ghost use Rattle.order.specs.Order.{task_start, header_of, header_rules, task_read, table_read, order_read, Reads};
 
 use model::{Order, OrderCause, Reading, Refusal, Task};
-use reader::take_field;
+use reader::OrderReader;
 
 // The header's fields.
 #[derive(Clone, Copy)]
@@ -21,50 +20,36 @@ pub struct Header {
     pub spare: u32,
 }
 
-// A task's record taken, and the bit at which the next one begins.
-#[derive(Clone, Copy)]
-pub struct TaskTaken {
-    pub task: Task,
-    pub spare: u32,
-    pub next: usize,
-}
-
 // The header, front to back.
 pub fn read_header(order: &[u8]) -> Header
     ensures { result ≡ header_of order.now }
 {
-    let version = take_field(order, 0, 4);
-    let processors = take_field(order, version.next.at, 7);
-    let tasks = take_field(order, processors.next.at, 6);
-    let spare = take_field(order, tasks.next.at, 7);
+    let mut reader = OrderReader::new(order, 0);
     Header {
-        version: version.value,
-        processors: processors.value,
-        tasks: tasks.value,
-        spare: spare.value,
+        version: reader.take(4),
+        processors: reader.take(7),
+        tasks: reader.take(6),
+        spare: reader.take(7),
     }
 }
 
-// The record of a task, front to back from a bit on.
-fn read_task(order: &[u8], at: usize) -> TaskTaken
-    requires { at ≤ task_start most_tasks }
-    ensures { TakesTask order.now at result }
+// The record of a task at which the reader stands, front to back, or 6 where a spare bit of it is set.
+fn read_task(reader: &mut OrderReader, number: u16) -> Result<Task, Refusal>
+    requires { (reader.old.cursor.at ≡ task_start number) × (number < most_tasks) }
+    ensures task { result ≡ task_read reader.old.order.now number }
+    ensures next { reader.new.cursor.at ≡ task_start (number + 1) }
+    ensures order { reader.new.order ≡ reader.old.order }
 {
-    let width = take_field(order, at, 7);
-    let period = take_field(order, width.next.at, 20);
-    let deadline = take_field(order, period.next.at, 20);
-    let run = take_field(order, deadline.next.at, 20);
-    let spare = take_field(order, run.next.at, 5);
-    TaskTaken {
-        task: Task {
-            width: width.value,
-            period: period.value,
-            deadline: deadline.value,
-            run: run.value,
-        },
-        spare: spare.value,
-        next: spare.next.at,
+    let task = Task {
+        width: reader.take(7),
+        period: reader.take(20),
+        deadline: reader.take(20),
+        run: reader.take(20),
+    };
+    if reader.take(5) != 0 {
+        return Err(Refusal::OfOrder(OrderCause::TaskSpare(number)));
     }
+    Ok(task)
 }
 
 // The records of so many tasks, front to back: the table, zero past them, or 6 of the lowest task that breaks it.
@@ -72,16 +57,10 @@ fn read_table(order: &[u8], tasks: usize) -> Result<[Task; Order::MOST_TASKS], R
     requires { tasks ≤ most_tasks }
     ensures { result ≡ table_read order.now tasks }
 {
+    let mut reader = OrderReader::new(order, 8 * Order::HEADER_BYTES);
     let mut table = [Task::zero(); Order::MOST_TASKS];
-    let mut at = 8 * Order::HEADER_BYTES;
     for i in 0..tasks {
-        let taken = read_task(order, at);
-        if taken.spare != 0 {
-            return Err(Refusal::OfOrder(OrderCause::TaskSpare(i as u16)));
-        }
-        let task = taken.task;
-        table[i] = task;
-        at = taken.next;
+        table[i] = read_task(&mut reader, i as u16)?;
     }
     Ok(table)
 }

@@ -1,12 +1,14 @@
 -- Laws of the order's bytes as the writer computes them.
 use mathlib.Core.Path.{◌≡◌, ap, ◌∙◌}
 use mathlib.Core.List.{List, ◌++◌}
-use Prim.Native.Nat.{ℕ, ◌+◌, ◌*◌, ◌/◌, ◌%◌}
+use Prim.Native.Nat.{ℕ, ◌+◌, ◌*◌, ◌/◌, ◌%◌, ◌≤◌}
 use native.Mathlib.Omega.{arith}
-use lib.ListN.{length, get_or, length-append}
+use lib.ListN.{length, get_or, take, length-append}
+use Rattle.std.specs.List.{flat_map}
 use Rattle.laws.specs.Joined.{joined}
 use Rattle.laws.proofs.Joined.{length-joined}
 use Rattle.bits.specs.Layout.{packed, number_in, record_bytes, FitIn}
+use Rattle.bits.proofs.Written.{joined_written}
 use Rattle.bits.proofs.Records.{packed_two, length_record}
 use Rattle.model.specs.declared.order.Task.{Task}
 use Rattle.model.specs.declared.order.Order.{Order}
@@ -38,3 +40,8 @@ length_records table tasks = length-joined (λ i. task_bytes (get_or table i zer
 pub length_order : (o : Order) → length (order_bytes o) ≡ order_length 1 o.tasks
 unfolding order_bytes table_bytes
 length_order o = rw (length-append, length_record, length_records o.table o.tasks)
+
+-- the records of an order's tasks, as they are put from its table
+pub table_written : (o : Order) → o.tasks ≤ length o.table → table_bytes o o.tasks ≡ flat_map task_bytes (take o.tasks o.table)
+unfolding table_bytes
+table_written o within = joined_written task_bytes o.table zero_task o.tasks within

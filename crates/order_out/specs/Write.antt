@@ -14,6 +14,7 @@ use Rattle.model.specs.Layouts.{task_record, order_length}
 use Rattle.model.specs.Answer.{output_after}
 use Rattle.model.specs.Rules.{Fact, Rule, rule, first_broken, in_range, range_rules, room_rules}
 use Rattle.order.specs.Order.{task_numbers, order_bytes}
+use Rattle.order_out.specs.declared.Columns.{Columns as Held}
 
 -- an order is written: "3, 4, then task by task 7 to 10, then 12"
 unfoldable pub written_rules : Order → (room : ℕ) → List Rule
@@ -36,6 +37,10 @@ pub record TaskColumns : Type 0 where
 
 abbrev pub columns : (widths periods deadlines runs : List ℕ) → TaskColumns
 columns widths periods deadlines runs = record { widths = widths; periods = periods; deadlines = deadlines; runs = runs }
+
+-- the columns that the writer holds
+abbrev pub columns_of : Held → TaskColumns
+columns_of held = columns held.widths.now held.periods.now held.deadlines.now held.runs.now
 
 -- 13: "the writer's columns differ in length"
 pub record SameLengths (c : TaskColumns) : Type 0 where

@@ -16,4 +16,4 @@ returns c =
     let a = c.args in
     let b = a.build in
     let size : 3 + (2 * b.partitions + 4 * b.tasks) ≡ build_length 1 b.partitions b.tasks = omega arith in
-    front_step (record_bytes build_header (build_header_numbers (build_header_for b))) (partition_bytes b b.partitions ++ member_bytes b b.tasks) a.out.now c.put_header.new.out c.put_records.new.out 3 (2 * b.partitions + 4 * b.tasks) (length_record build_header _) c.put_header.ensures c.put_records.ensures ∙ ap (λ (n : ℕ). build_bytes b ++ drop n a.out.now) size
+    front_step (record_bytes build_header (build_header_numbers (build_header_for b))) (partition_bytes b b.partitions ++ member_bytes b b.tasks) a.out.now c.put_header.new.out c.put_build_records.new.out 3 (2 * b.partitions + 4 * b.tasks) (length_record build_header _) c.put_header.ensures c.put_build_records.ensures ∙ ap (λ (n : ℕ). build_bytes b ++ drop n a.out.now) size

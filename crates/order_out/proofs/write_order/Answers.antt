@@ -18,15 +18,15 @@ returns-then-not-same_lengths c =
       written = sym (after_refused _ _ c.args.out.now);
     }
 
-pub column_order-order-requires : goal.column_order-order-requires
-column_order-order-requires c =
+pub order-requires : goal.order-requires
+order-requires c =
     let a = c.args in
     (same_tells (columns a.widths.now a.periods.now a.deadlines.now a.runs.now)).0 (sym c.same_lengths.ensures ∙ c.if-not-same_lengths.false)
 
 pub returns : goal.returns
 returns c =
     let done = c.write in
-    let made = c.column_order-order.ensures in
+    let made = c.order.ensures in
     let a = c.args in
     let given = columns a.widths.now a.periods.now a.deadlines.now a.runs.now in
     let one-length = sym c.same_lengths.ensures ∙ c.if-not-same_lengths.false in

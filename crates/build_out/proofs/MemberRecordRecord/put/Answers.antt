@@ -1,5 +1,5 @@
 use Rattle.build_out.proofs.Numbers.{member_number}
-use Rattle.build_out.proofs.put_member.Goals as goal
+use Rattle.build_out.proofs.MemberRecordRecord.put.Goals as goal
 
 pub returns : goal.returns
 returns c = cc (member_number c.args.member)

@@ -1,5 +1,5 @@
 use Rattle.build_out.proofs.Numbers.{partition_number}
-use Rattle.build_out.proofs.put_partition.Goals as goal
+use Rattle.build_out.proofs.PartitionRecordRecord.put.Goals as goal
 
 pub returns : goal.returns
 returns c = cc (partition_number c.args.place)
