@@ -1,17 +1,23 @@
 -- Laws of the build's records as they are taken: the fields cut from a record's one number, and one record more without spare bits.
 use mathlib.Core.Path.{◌≡◌, refl, sym, ap, ◌∙◌}
 use mathlib.Core.Bool.{Bool, true, ◌&&◌}
-use mathlib.Core.List.{List, [], ◌∷◌}
-use Prim.Native.Nat.{ℕ, ◌+◌, ◌/◌, ◌%◌, ◌^◌}
+use mathlib.Core.List.{List, [], ◌∷◌, ◌++◌}
+use Prim.Native.Nat.{ℕ, zero, suc, ◌+◌, ◌-◌, ◌*◌, ◌/◌, ◌%◌, ◌^◌}
 use native.Mathlib.Nat.{add-zero, zero-add, add_assoc}
 use native.Mathlib.Numerals.{add-one}
+use native.Mathlib.Omega.{arith}
 use lib.Dec.{eqb}
+use lib.ListN.{replicate}
 use Rattle.laws.specs.Every.{every}
+use Rattle.laws.specs.Joined.{filled}
+use Rattle.laws.proofs.Joined.{joined_same}
 use Rattle.bits.specs.Field.{field}
 use Rattle.bits.proofs.Field.{field-within}
 use Rattle.bits.specs.Layout.{Layout, bits_in, numbers_at}
-use Rattle.build.specs.Build.{partition_spare_at, member_spare_at}
-use Rattle.build.specs.Taken.{partitions_clear, members_clear}
+use Rattle.model.specs.Limits.{most_tasks, most_partitions, zero_partition, zero_member}
+use Rattle.model.specs.Layouts.{build_length}
+use Rattle.build.specs.Build.{partition_fields, partition_at, member_fields, member_at}
+use Rattle.build.specs.Taken.{partition_in, partition_spare_in, member_in, member_spare_in, partitions_clear, members_clear}
 
 -- a record's one number, cut into its fields
 abbrev pub cut_by : Layout → ℕ → List ℕ
@@ -33,24 +39,34 @@ pub cut_at : (s : List ℕ) (at : ℕ) (layout : Layout) (number : ℕ) → numb
 cut_at s at layout number e =
     ap (λ (x : ℕ). numbers_at s x layout) (sym (add-zero at)) ∙ cut_behind s layout at 0 ∙ ap (λ (n : ℕ). cut_by layout (field s at n)) (zero-add (bits_in layout)) ∙ rw e
 
--- a test of each number below a bound, and one more
-every_next : (passes : ℕ → Bool) (n : ℕ) → every passes (n + 1) ≡ (every passes n && passes n)
+-- a test of each number below a bound: none, and one more
+pub every_none : (passes : ℕ → Bool) → true ≡ every passes 0
+unfolding every
+every_none passes = refl
+
+pub every_next : (passes : ℕ → Bool) (n : ℕ) → every passes (n + 1) ≡ (every passes n && passes n)
 unfolding every
 every_next passes n = rw add-one
 
+-- the records one behind another are those of the build
 module _ (s : List ℕ) where
-  pub partitions_none : true ≡ partitions_clear s 0
-  unfolding partitions_clear every
-  partitions_none = refl
+  pub places_taken : (count : ℕ) → filled (λ p. partition_in s (build_length 1 0 0 + 2 * p)) zero_partition most_partitions count ≡ filled (partition_at s) zero_partition most_partitions count
+  unfolding partition_fields
+  places_taken count = ap (λ xs. xs ++ replicate (most_partitions - count) zero_partition) (joined_same _ _ count (λ p l. let e : build_length 1 0 0 + 2 * p ≡ build_length 1 p 0 = omega arith in ap (λ (from : ℕ). partition_in s from ∷ []) e))
 
-  pub partitions_next : (i : ℕ) → partitions_clear s (i + 1) ≡ (partitions_clear s i && eqb (partition_spare_at s i) 0)
-  unfolding partitions_clear
-  partitions_next i = every_next (λ p. eqb (partition_spare_at s p) 0) i
+  every_same : (p q : ℕ → Bool) (n : ℕ) → ((i : ℕ) → p i ≡ q i) → every p n ≡ every q n
+  unfolding every
+  every_same p q zero same = refl
+  every_same p q (suc n) same = rw (every_same p q n same, same n)
 
-  pub members_none : (partitions : ℕ) → true ≡ members_clear s partitions 0
-  unfolding members_clear every
-  members_none partitions = refl
+  pub places_clear : (count : ℕ) → every (λ p. eqb (partition_spare_in s (build_length 1 0 0 + 2 * p)) 0) count ≡ partitions_clear s count
+  unfolding partition_fields partitions_clear
+  places_clear count = every_same _ _ count (λ p. let e : build_length 1 0 0 + 2 * p ≡ build_length 1 p 0 = omega arith in ap (λ (from : ℕ). eqb (partition_spare_in s from) 0) e)
 
-  pub members_next : (partitions i : ℕ) → members_clear s partitions (i + 1) ≡ (members_clear s partitions i && eqb (member_spare_at s partitions i) 0)
-  unfolding members_clear
-  members_next partitions i = every_next (λ k. eqb (member_spare_at s partitions k) 0) i
+  pub members_taken : (partitions count : ℕ) → filled (λ i. member_in s (build_length 1 partitions 0 + 4 * i)) zero_member most_tasks count ≡ filled (member_at s partitions) zero_member most_tasks count
+  unfolding member_fields
+  members_taken partitions count = ap (λ xs. xs ++ replicate (most_tasks - count) zero_member) (joined_same _ _ count (λ i l. let e : build_length 1 partitions 0 + 4 * i ≡ build_length 1 partitions i = omega arith in ap (λ (from : ℕ). member_in s from ∷ []) e))
+
+  pub tasks_clear : (partitions count : ℕ) → every (λ i. eqb (member_spare_in s (build_length 1 partitions 0 + 4 * i)) 0) count ≡ members_clear s partitions count
+  unfolding member_fields members_clear
+  tasks_clear partitions count = every_same _ _ count (λ i. let e : build_length 1 partitions 0 + 4 * i ≡ build_length 1 partitions i = omega arith in ap (λ (from : ℕ). eqb (member_spare_in s from) 0) e)

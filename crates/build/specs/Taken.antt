@@ -1,20 +1,24 @@
--- What the reader takes of each record of a build: its fields, and whether its spare bits are zero.
-use Rattle.std.specs.Prelude.{ℕ, ◌≡◌, Bool, ◌&&◌, List, eqb}
+-- The build's records taken: what stands in the record that begins at a byte, and that no spare bit is set.
+use Rattle.std.specs.Prelude.{ℕ, ◌*◌, ◌≡◌, Bool, ◌&&◌, List, get_or, eqb}
 use Rattle.laws.specs.Every.{every}
-use Rattle.laws.specs.Joined.{filled}
-use Rattle.model.specs.Limits.{most_tasks, most_partitions, zero_partition, zero_member}
-use Rattle.build.specs.declared.PartitionTaken.{PartitionTaken}
-use Rattle.build.specs.declared.MemberTaken.{MemberTaken}
-use Rattle.build.specs.declared.PlacesTaken.{PlacesTaken}
-use Rattle.build.specs.declared.MembersTaken.{MembersTaken}
+use Rattle.bits.specs.Layout.{numbers_at}
+use Rattle.model.specs.declared.build.Partition.{Partition}
+use Rattle.model.specs.declared.build.Member.{Member}
+use Rattle.model.specs.Layouts.{partition_record, member_record}
 use Rattle.build.specs.declared.BuildTaken.{BuildTaken}
-use Rattle.build.specs.Build.{build_header_of, partition_at, partition_spare_at, member_at, member_spare_at, build_at}
+use Rattle.build.specs.Build.{build_header_of, partition_from, partition_spare_at, member_from, member_spare_at, build_at}
 
-abbrev pub TakesPartition : List ℕ → (p : ℕ) → PartitionTaken → Type 0
-TakesPartition s p taken = (taken.place ≡ partition_at s p) × (taken.spare ≡ partition_spare_at s p)
+abbrev pub partition_in : List ℕ → (from : ℕ) → Partition
+partition_in s from = partition_from (numbers_at s (8 * from) (partition_record 1))
 
-abbrev pub TakesMember : List ℕ → (partitions i : ℕ) → MemberTaken → Type 0
-TakesMember s partitions i taken = (taken.member ≡ member_at s partitions i) × (taken.spare ≡ member_spare_at s partitions i)
+abbrev pub partition_spare_in : List ℕ → (from : ℕ) → ℕ
+partition_spare_in s from = get_or (numbers_at s (8 * from) (partition_record 1)) 2 0
+
+abbrev pub member_in : List ℕ → (from : ℕ) → Member
+member_in s from = member_from (numbers_at s (8 * from) member_record)
+
+abbrev pub member_spare_in : List ℕ → (from : ℕ) → ℕ
+member_spare_in s from = get_or (numbers_at s (8 * from) member_record) 3 0
 
 -- no spare bit of the partitions' records is set
 unfoldable pub partitions_clear : List ℕ → (partitions : ℕ) → Bool
@@ -23,12 +27,6 @@ partitions_clear s partitions = every (λ p. eqb (partition_spare_at s p) 0) par
 -- nor of the tasks' records
 unfoldable pub members_clear : List ℕ → (partitions tasks : ℕ) → Bool
 members_clear s partitions tasks = every (λ i. eqb (member_spare_at s partitions i) 0) tasks
-
-abbrev pub TakesPlaces : List ℕ → (partitions : ℕ) → PlacesTaken → Type 0
-TakesPlaces s partitions taken = (taken.clear ≡ partitions_clear s partitions) × (taken.places ≡ filled (partition_at s) zero_partition most_partitions partitions)
-
-abbrev pub TakesMembers : List ℕ → (partitions tasks : ℕ) → MembersTaken → Type 0
-TakesMembers s partitions tasks taken = (taken.clear ≡ members_clear s partitions tasks) × (taken.members ≡ filled (member_at s partitions) zero_member most_tasks tasks)
 
 -- 23's test, and the build
 abbrev pub TakesBuild : List ℕ → BuildTaken → Type 0

@@ -1,6 +1,5 @@
 use Prim.Native.Nat.{ℕ}
-use mathlib.Core.Path.{◌≡◌, sym, ap, ◌∙◌}
-use mathlib.Core.Bool.{◌&&◌}
+use mathlib.Core.Path.{◌≡◌, ◌∙◌}
 use mathlib.Core.List.{List}
 use Rattle.laws.specs.Joined.{filled}
 use Rattle.model.specs.declared.build.Partition.{Partition}
@@ -9,7 +8,7 @@ use Rattle.model.specs.Limits.{most_tasks, most_partitions, zero_partition, zero
 use Rattle.build.specs.declared.BuildHeader.{BuildHeader}
 use Rattle.build.specs.Build.{build_header_of, partition_at, member_at, build_at}
 use Rattle.build.specs.Taken.{partitions_clear, members_clear}
-use Rattle.build.proofs.take_build.Goals.{then-places, else-places}
+use Rattle.build.proofs.Records.{places_taken, places_clear, members_taken, tasks_clear}
 use Rattle.build.proofs.take_build.Goals as goal
 
 -- the build that was taken is the one that stands in the bytes
@@ -21,16 +20,14 @@ build-same s h places members e p m = rw (p, m, e)
 
 pub returns : goal.returns
 returns c =
-    let a = c.args in
-    let s = a.build.now in
-    let h = a.header in
-    let m = c.take_members-members in
-    let p = c.take_places-places in
-    let both-clear : c.if-places.clear ≡ (partitions_clear s h.partitions && members_clear s h.partitions h.tasks) =
-    elim c.if-places.branch [
-      | then-places w ↦ rw (sym p.ensures.0 ∙ w.if-places.true) (w.clear-is ∙ m.ensures.0)
-      | else-places w ↦ rw (sym p.ensures.0 ∙ w.if-places.false) w.clear-is
-    ] in (
-      both-clear ∙ ap (λ (h : BuildHeader). partitions_clear s h.partitions && members_clear s h.partitions h.tasks) c.requires.0,
-      build-same s h _ _ c.requires.0 p.ensures.1 m.ensures.1,
+    let s = c.args.build.now in
+    let h = c.args.header in
+    let p = c.take_table-places in
+    let m = c.take_table-members in
+    let places-clear : p.result.clear ≡ partitions_clear s h.partitions = rw c.bytes.ensures at p.ensures.clear ∙ places_clear s h.partitions in
+    let members-clear : m.result.clear ≡ members_clear s h.partitions h.tasks = rw c.bytes-2.ensures at m.ensures.clear ∙ tasks_clear s h.partitions h.tasks in
+    let places = rw c.bytes.ensures at p.ensures.table ∙ places_taken s h.partitions in
+    let members = rw c.bytes-2.ensures at m.ensures.table ∙ members_taken s h.partitions h.tasks in (
+      rw (places-clear, members-clear, c.requires.0),
+      build-same s h _ _ c.requires.0 places members,
     )
