@@ -6,7 +6,7 @@ ghost use Rattle.model.specs.Answer.{order_number, order_place, call_number, cal
 use crate::Order;
 
 // What is wrong with an order: 1 to 10. A place is a task.
-#[derive(Clone, Copy)]
+#[derive(Clone, Copy, Debug, PartialEq, Eq)]
 pub enum OrderCause {
     OrderShort,
     OrderVersion,
@@ -22,7 +22,7 @@ pub enum OrderCause {
 }
 
 // What a call cannot do with what it is handed: 11 to 13. A place is a task.
-#[derive(Clone, Copy)]
+#[derive(Clone, Copy, Debug, PartialEq, Eq)]
 pub enum CallCause {
     FirstFit(u16),
     Output,
@@ -30,7 +30,7 @@ pub enum CallCause {
 }
 
 // What is wrong with a build: 20 to 30. A place is a task, or a partition where the name says so.
-#[derive(Clone, Copy)]
+#[derive(Clone, Copy, Debug, PartialEq, Eq)]
 pub enum BuildCause {
     BuildShort,
     BuildMismatch,
@@ -46,7 +46,7 @@ pub enum BuildCause {
 }
 
 // What is wrong with a script: 40 to 46. A place is a record.
-#[derive(Clone, Copy)]
+#[derive(Clone, Copy, Debug, PartialEq, Eq)]
 pub enum ScriptCause {
     ScriptLength,
     RecordSpare(u16),
@@ -58,7 +58,7 @@ pub enum ScriptCause {
 }
 
 // What is wrong with the text of an order: 50 to 52. A place is a line.
-#[derive(Clone, Copy)]
+#[derive(Clone, Copy, Debug, PartialEq, Eq)]
 pub enum TextCause {
     LineShape(u16),
     LineNumber(u16),
@@ -66,7 +66,7 @@ pub enum TextCause {
 }
 
 // What is wrong with a list of processors: 60 to 62 and 65. A place is a byte of its text.
-#[derive(Clone, Copy)]
+#[derive(Clone, Copy, Debug, PartialEq, Eq)]
 pub enum ListCause {
     ListShape(u16),
     ListNumber(u16),
@@ -75,14 +75,14 @@ pub enum ListCause {
 }
 
 // Why there is no late script to show: 63 and 64. Neither has a place.
-#[derive(Clone, Copy)]
+#[derive(Clone, Copy, Debug, PartialEq, Eq)]
 pub enum LateCause {
     NotLate,
     ManyRecords,
 }
 
 // Why something is refused.
-#[derive(Clone, Copy)]
+#[derive(Clone, Copy, Debug, PartialEq, Eq)]
 pub enum Refusal {
     OfOrder(OrderCause),
     OfCall(CallCause),
@@ -322,7 +322,7 @@ impl Refusal {
 }
 
 // What reading an order gives; where it is refused, the order is empty.
-#[derive(Clone, Copy)]
+#[derive(Clone, Copy, Debug, PartialEq, Eq)]
 pub struct Reading {
     pub answer: Result<u32, Refusal>,
     pub order: Order,

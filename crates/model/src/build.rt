@@ -6,7 +6,7 @@ ghost use Rattle.model.specs.Layouts.{build_length};
 use crate::Order;
 
 // So many processors from the first on.
-#[derive(Clone, Copy)]
+#[derive(Clone, Copy, Debug, PartialEq, Eq)]
 pub struct Partition {
     pub volume: u32,
     pub first: u32,
@@ -26,7 +26,7 @@ impl Partition {
 }
 
 // A task in its partition, with its rank there and its worst response.
-#[derive(Clone, Copy)]
+#[derive(Clone, Copy, Debug, PartialEq, Eq)]
 pub struct Member {
     pub partition: u32,
     pub rank: u32,
@@ -48,7 +48,7 @@ impl Member {
 }
 
 // A partition of processors and tasks, zero past its counts.
-#[derive(Clone, Copy)]
+#[derive(Clone, Copy, Debug, PartialEq, Eq)]
 pub struct Build {
     pub processors: u32,
     pub tasks: u32,
@@ -91,7 +91,7 @@ impl Build {
 }
 
 // A record of a script: at a tick, a job of a task, of a duration.
-#[derive(Clone, Copy)]
+#[derive(Clone, Copy, Debug, PartialEq, Eq)]
 pub struct Release {
     pub tick: u32,
     pub task: u32,

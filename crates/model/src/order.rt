@@ -7,7 +7,7 @@ ghost use Rattle.model.specs.Rules.{first_broken, given, task_rules, range_rules
 use crate::{OrderCause, Refusal};
 
 // A rigid sporadic gang: width m, period T, deadline D, run time C.
-#[derive(Clone, Copy)]
+#[derive(Clone, Copy, Debug, PartialEq, Eq)]
 pub struct Task {
     pub width: u32,
     pub period: u32,
@@ -64,7 +64,7 @@ impl Task {
 }
 
 // Processors M, tasks n, and the table as one value, zero past its n tasks.
-#[derive(Clone, Copy)]
+#[derive(Clone, Copy, Debug, PartialEq, Eq)]
 pub struct Order {
     pub processors: u32,
     pub tasks: u32,
