@@ -24,8 +24,8 @@ pub fn answer_word(answer: Result<u32, Refusal>) -> u64
     ensures { result ≡ answer_word answer }
 {
     match answer {
-        Ok(count) => NO_PLACE * 65_536 + count as u64 * 4_294_967_296,
-        Err(cause) => cause.number() as u64 + cause.place() as u64 * 65_536,
+        Ok(count) => NO_PLACE * 65_536 + u64::from(count) * 4_294_967_296,
+        Err(cause) => u64::from(cause.number()) + u64::from(cause.place()) * 65_536,
     }
 }
 
@@ -33,19 +33,15 @@ pub fn answer_word(answer: Result<u32, Refusal>) -> u64
 fn order_numbers(order: Order) -> [u32; ORDER_NUMBERS]
     ensures { result ≡ order_numbers order }
 {
-    let table = order.table;
     let mut numbers = [0u32; ORDER_NUMBERS];
     numbers[0] = order.processors;
     numbers[1] = order.tasks;
-    let mut i: usize = 0;
-    while i < Order::MOST_TASKS {
-        let task = table[i];
+    for (i, task) in order.table.iter().enumerate() {
         let at = 2 + 4 * i;
         numbers[at] = task.width;
         numbers[at + 1] = task.period;
         numbers[at + 2] = task.deadline;
         numbers[at + 3] = task.run;
-        i += 1;
     }
     numbers
 }
@@ -55,13 +51,10 @@ pub fn jefkantu_read_order(order: &[u8], numbers: &mut [u32; ORDER_NUMBERS]) -> 
     ensures { ReadsOrder order.now numbers.old result numbers.new }
 {
     let reading = order::read_order(order);
-    let answer = reading.answer;
-    if let Ok(_) = answer {
-        let read = reading.order;
-        let told = order_numbers(read);
-        *numbers = told;
+    if let Ok(_) = reading.answer {
+        *numbers = order_numbers(reading.order);
     }
-    answer_word(answer)
+    answer_word(reading.answer)
 }
 
 // Writes M and the columns as an order into the front of the output.
@@ -75,56 +68,49 @@ pub fn jefkantu_write_order(
 ) -> u64
     ensures { WritesColumns processors (columns widths.now periods.now deadlines.now runs.now) out.old result out.new }
 {
-    let answer = order_out::write_order(processors, widths, periods, deadlines, runs, out);
-    answer_word(answer)
+    answer_word(order_out::write_order(processors, widths, periods, deadlines, runs, out))
 }
 
 // Plans an order: its build into the front of the output.
 pub fn jefkantu_plan(order: &[u8], out: &mut [u8]) -> u64
     ensures { PlansBuild order.now out.old result out.new }
 {
-    let answer = plan::plan(order, out);
-    answer_word(answer)
+    answer_word(plan::plan(order, out))
 }
 
 // Checks a build against an order.
 pub fn jefkantu_check(order: &[u8], build: &[u8]) -> u64
     ensures { ChecksBuild order.now build.now result }
 {
-    let answer = inspect::check(order, build);
-    answer_word(answer)
+    answer_word(inspect::check(order, build))
 }
 
 // Runs a release script through a build: a finish tick for each record, into the front of the output.
 pub fn jefkantu_run(order: &[u8], build: &[u8], script: &[u8], out: &mut [u32]) -> u64
     ensures { RunsScript order.now build.now script.now out.old result out.new }
 {
-    let answer = run::run(order, build, script, out);
-    answer_word(answer)
+    answer_word(run::run(order, build, script, out))
 }
 
 // Reads the order form's text beside M: the order's bytes into the front of the output.
 pub fn jefkantu_read_text(processors: u32, text: &[u8], out: &mut [u8]) -> u64
     ensures { ReadsForm processors text.now out.old result out.new }
 {
-    let answer = text::read_text(processors, text, out);
-    answer_word(answer)
+    answer_word(text::read_text(processors, text, out))
 }
 
 // Writes the text of an order into the front of the output.
 pub fn jefkantu_write_text(order: &[u8], out: &mut [u8]) -> u64
     ensures { WritesForm order.now out.old result out.new }
 {
-    let answer = text_out::write_text(order, out);
-    answer_word(answer)
+    answer_word(text_out::write_text(order, out))
 }
 
 // Writes a set of processors as a list into the front of the output.
 pub fn jefkantu_write_list(set: u64, out: &mut [u8]) -> u64
     ensures { WritesSet set out.old result out.new }
 {
-    let answer = list_out::write_list(set, out);
-    answer_word(answer)
+    answer_word(list_out::write_list(set, out))
 }
 
 // Reads a list of processors; the set is written only where it is accepted.
@@ -132,25 +118,22 @@ pub fn jefkantu_read_list(text: &[u8], set: &mut u64) -> u64
     ensures { ReadsSet text.now set.old result set.new }
 {
     let reading = list::read_list(text);
-    let answer = reading.answer;
-    if let Ok(_) = answer {
+    if let Ok(_) = reading.answer {
         *set = reading.set;
     }
-    answer_word(answer)
+    answer_word(reading.answer)
 }
 
 // The set of each partition of an accepted build, into the front of the output.
 pub fn jefkantu_partition_sets(order: &[u8], build: &[u8], out: &mut [u64]) -> u64
     ensures { GivesPartitionSets order.now build.now out.old result out.new }
 {
-    let answer = partition_sets::partition_sets(order, build, out);
-    answer_word(answer)
+    answer_word(partition_sets::partition_sets(order, build, out))
 }
 
 // For a build that the check refuses 29, a script in which a job of the named task is late, into the front of the output.
 pub fn jefkantu_late(order: &[u8], build: &[u8], out: &mut [u8]) -> u64
     ensures { ShowsLateScript order.now build.now out.old result out.new }
 {
-    let answer = late::late(order, build, out);
-    answer_word(answer)
+    answer_word(late::late(order, build, out))
 }

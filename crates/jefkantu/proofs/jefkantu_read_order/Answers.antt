@@ -6,12 +6,12 @@ use Rattle.jefkantu.proofs.jefkantu_read_order.Goals.{in-Ok, in_default}
 
 -- the order was accepted and told, or refused and the numbers left
 written : (c : goal.After-answer_word) → let reading = c.read_order-reading.result in
-    c.match-answer.numbers ≡ numbers_after reading.answer reading.order c.args.numbers.now
+    c.match-reading.numbers ≡ numbers_after reading.answer reading.order c.args.numbers.now
 written c =
     let reading = c.read_order-reading.result in
     let numbers = c.args.numbers.now in
-    elim c.match-answer.branch [
-      | in-Ok w ↦ w.numbers-is ∙ w.order_numbers-told.ensures ∙ sym (numbers_done reading.answer reading.order numbers w.in-Ok.is)
+    elim c.match-reading.branch [
+      | in-Ok w ↦ w.numbers-is ∙ w.order_numbers.ensures ∙ sym (numbers_done reading.answer reading.order numbers w.in-Ok.is)
       | in_default w ↦ w.numbers-is ∙ sym (numbers_refused reading.answer reading.order numbers w.in_default.is)
     ]
 

@@ -4,15 +4,15 @@ use Rattle.jefkantu.proofs.Numbers.{numbers_to, numbers_none, numbers_more, numb
 use Rattle.jefkantu.proofs.order_numbers.Goals as goal
 
 pub loop-i-init : goal.loop-i-init
-loop-i-init c = (omega arith, numbers_none c.args.order.processors c.args.order.tasks c.args.order.table)
+loop-i-init c = numbers_none c.args.order.processors c.args.order.tasks c.args.order.table
 
 pub loop-i-preserved : goal.loop-i-preserved
 loop-i-preserved c =
     let o = c.args.order in
-    (omega arith, rw c.loop-i.invariant.1 (numbers_more o.processors o.tasks o.table c.loop-i.i c.loop-i-test.true))
+    rw c.loop-i.invariant (numbers_more o.processors o.tasks o.table c.loop-i.i c.loop-i-test.true)
 
 pub returns : goal.returns
 returns c =
     let o = c.args.order in
     let all : c.loop-i.i ≡ 32 = omega arith in
-    c.loop-i.invariant.1 ∙ ap (numbers_to o.processors o.tasks o.table) all ∙ numbers_all o.processors o.tasks o.table
+    c.loop-i.invariant ∙ ap (numbers_to o.processors o.tasks o.table) all ∙ numbers_all o.processors o.tasks o.table
