@@ -59,7 +59,8 @@ fn judge_number(at: usize, digits: usize, value: u32) -> Result<(), Refusal>
 
 // An item's end: 60 where neither a comma nor the text's end is at the place.
 fn judge_end(text: &[u8], at: usize) -> Result<(), Refusal>
-    requires { (at ≤ length text.now) × (length text.now ≤ most_list_text) }
+    requires inside { at ≤ length text.now }
+    requires short { length text.now ≤ most_list_text }
     ensures { result ≡ given tt (first_broken 0 (end_rules at (up_to is_comma (drop at text.now)))) }
 {
     let Some(byte) = text.get(at) else {
@@ -73,7 +74,8 @@ fn judge_end(text: &[u8], at: usize) -> Result<(), Refusal>
 
 // The second number of a range, and the item's end: 60, 61, and 62 where it is below the first.
 fn take_last(text: &[u8], at: usize, first: u32) -> Result<ItemTaken, Refusal>
-    requires { (at ≤ length text.now) × (length text.now ≤ most_list_text) }
+    requires inside { at ≤ length text.now }
+    requires short { length text.now ≤ most_list_text }
     ensures { TakesLast first (drop at text.now) at result }
 {
     let digits = take_digits(text, at);
@@ -89,7 +91,8 @@ fn take_last(text: &[u8], at: usize, first: u32) -> Result<ItemTaken, Refusal>
 
 // The item at a place: a number alone, or a range.
 fn take_item(text: &[u8], at: usize) -> Result<ItemTaken, Refusal>
-    requires { (at ≤ length text.now) × (length text.now ≤ most_list_text) }
+    requires inside { at ≤ length text.now }
+    requires short { length text.now ≤ most_list_text }
     ensures { TakesItem (drop at text.now) at result }
 {
     let digits = take_digits(text, at);

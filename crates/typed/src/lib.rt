@@ -71,7 +71,8 @@ pub fn is_line_feed(byte: u8) -> bool
 
 // A value with one digit more behind it; past the largest it stays one more than that.
 fn with_digit(value: u32, digit: u8) -> u32
-    requires { (value ≤ suc most_typed) × IsDigit digit }
+    requires few { value ≤ suc most_typed }
+    requires is_digit { IsDigit digit }
     ensures { result ≡ capped (value * 10 + (digit - zero_digit)) }
 {
     (value * 10 + u32::from(digit - b'0')).min(MOST_TYPED + 1)

@@ -16,15 +16,11 @@ returns-in_err-judge_number c =
 pub overflow_add-next : goal.overflow_add-next
 overflow_add-next c =
     let a = c.args in
-    let pre = c.requires in
-    let inside = digits_within a.text.now a.at pre.0 in
-    omega (arith, c.take_digits-digits.ensures.1, inside, pre.1)
+    let inside = digits_within a.text.now a.at c.requires.inside in
+    omega (arith, c.take_digits-digits.ensures.1, inside, c.requires.short)
 
-pub take_last-requires : goal.take_last-requires
-take_last-requires c =
-    let a = c.args in
-    let pre = c.requires in
-    (dash_inside a.text.now c.take_digits-digits.result.next (sym c.dash_at.ensures ∙ c.if-dash_at.true), pre.1)
+pub take_last-requires-clause-inside : goal.take_last-requires-clause-inside
+take_last-requires-clause-inside c = dash_inside c.args.text.now c.take_digits-digits.result.next (sym c.dash_at.ensures ∙ c.if-dash_at.true)
 
 pub returns-then-dash_at : goal.returns-then-dash_at
 returns-then-dash_at c =
@@ -34,12 +30,11 @@ returns-then-dash_at c =
     let dashed = dash_told a.text.now a.at digits.result.value digits.result.next digits.ensures.0 digits.ensures.1 true (sym c.dash_at.ensures ∙ c.if-dash_at.true) in
     range_taken a.text.now a.at digits.result.value digits.result.next digits.ensures.0 digits.ensures.1 number.0 c.take_last.result number.1 dashed c.take_last.ensures
 
-pub judge_end-requires : goal.judge_end-requires
-judge_end-requires c =
+pub judge_end-requires-clause-inside : goal.judge_end-requires-clause-inside
+judge_end-requires-clause-inside c =
     let a = c.args in
-    let pre = c.requires in
-    let inside = digits_within a.text.now a.at pre.0 in
-    (omega (arith, c.take_digits-digits.ensures.1, inside), pre.1)
+    let inside = digits_within a.text.now a.at c.requires.inside in
+    omega (arith, c.take_digits-digits.ensures.1, inside)
 
 pub returns-in_err-judge_end : goal.returns-in_err-judge_end
 returns-in_err-judge_end c =

@@ -11,9 +11,6 @@ use Rattle.list.proofs.take_items.Goals as goal
 pub loop-at-init : goal.loop-at-init
 loop-at-init c = all_left c.args.text.now
 
-pub take_item-requires : goal.take_item-requires
-take_item-requires c = (c.loop-at-test.true, c.requires)
-
 pub returns-in_err-item : goal.returns-in_err-item
 returns-in_err-item c =
     let text = c.args.text.now in

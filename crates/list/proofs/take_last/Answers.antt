@@ -19,12 +19,11 @@ returns-then-last-first c =
     let number = done_given tt _ (sym c.judge_number.ensures ∙ c.in_ok-judge_number.was) in
     last_below a.text.now a.at a.first digits.result.value digits.result.next digits.ensures.0 digits.ensures.1 number.0 number.1 c.if-last-first.true
 
-pub judge_end-requires : goal.judge_end-requires
-judge_end-requires c =
+pub judge_end-requires-clause-inside : goal.judge_end-requires-clause-inside
+judge_end-requires-clause-inside c =
     let a = c.args in
-    let pre = c.requires in
-    let inside = digits_within a.text.now a.at pre.0 in
-    (omega (arith, c.take_digits-digits.ensures.1, inside), pre.1)
+    let inside = digits_within a.text.now a.at c.requires.inside in
+    omega (arith, c.take_digits-digits.ensures.1, inside)
 
 pub returns-in_err-judge_end : goal.returns-in_err-judge_end
 returns-in_err-judge_end c =

@@ -17,8 +17,8 @@ returns-then-not-is_digit c =
     let l = c.loop-next in
     taking_last _ _ _ _ l.invariant (digits_stopped a.text.now l.next (sym c.is_digit.ensures ∙ c.if-not-is_digit.true))
 
-pub with_digit-value-requires : goal.with_digit-value-requires
-with_digit-value-requires c = (c.loop-next.invariant.few, within_true _ _ _ (sym c.is_digit.ensures ∙ c.if-not-is_digit.false))
+pub with_digit-value-requires-clause-is_digit : goal.with_digit-value-requires-clause-is_digit
+with_digit-value-requires-clause-is_digit c = within_true _ _ _ (sym c.is_digit.ensures ∙ c.if-not-is_digit.false)
 
 pub loop-next-preserved : goal.loop-next-preserved
 loop-next-preserved c =
