@@ -1,9 +1,8 @@
-// The kinds of thing that the planner reads and answers, with their limits, and the answers.
+// The kinds of thing that the planner reads and answers, with their limits, and the causes of refusals.
 #![tactic(auto)]
 
 mod answer;
 mod build;
-mod numbers;
 mod order;
 
 pub use answer::{
@@ -11,5 +10,4 @@ pub use answer::{
     TextCause,
 };
 pub use build::{Build, Member, Partition, Release};
-pub use numbers::{larger, smaller, wide, within};
 pub use order::{Order, Task};
