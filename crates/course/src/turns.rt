@@ -19,11 +19,7 @@ pub struct Gathered {
 fn goes_on(m: Machine) -> bool
     ensures { result ≡ goes_on m }
 {
-    if m.job < NO_RECORD {
-        true
-    } else {
-        m.ahead < NO_RECORD
-    }
+    m.job < NO_RECORD || m.ahead < NO_RECORD
 }
 
 // The finish tick of the job that runs.

@@ -31,11 +31,7 @@ pub fn joined(keys: &[u32; Release::MOST], i: u16, tick: u32) -> bool
     requires { length keys.now ≡ most_records }
     ensures { result ≡ (ltb i most_records && ltb (get_or keys.now i 0 / 32) tick) }
 {
-    if i < NO_RECORD {
-        keys[i as usize] / 32 < tick
-    } else {
-        false
-    }
+    i < NO_RECORD && keys[i as usize] / 32 < tick
 }
 
 // A set of ranks with one more.
