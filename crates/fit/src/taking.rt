@@ -12,9 +12,9 @@ use model::{CallCause, Order, Refusal};
 use placing::Line;
 
 // A new partition for the task if so many processors are left, else its refusal.
-fn open_for(order: &Order, placing: Placing, task: usize) -> Result<Placing, Refusal>
-    requires { (task < most_tasks) × (placing.opened < most_partitions) × (placing.used ≤ order.now.processors) × (order.now.processors ≤ most_processors) }
-    ensures { result ≡ told (opening order.now placing task) }
+fn open_for(order: &Order, placing: &Placing, task: usize) -> Result<Placing, Refusal>
+    requires { (task < most_tasks) × (placing.now.opened < most_partitions) × (placing.now.used ≤ order.now.processors) × (order.now.processors ≤ most_processors) }
+    ensures { result ≡ told (opening order.now placing.now task) }
 {
     let width = order.table[task].width;
     if order.processors - placing.used < width {
@@ -27,14 +27,14 @@ fn open_for(order: &Order, placing: Placing, task: usize) -> Result<Placing, Ref
 fn take_turn(
     order: &Order,
     table: &Rows,
-    placing: Placing,
+    placing: &Placing,
     line: &mut Line,
 ) -> Result<Placing, Refusal>
-    requires { Taking order.now table.now placing line.old }
-    ensures { Taken order.now placing line.old result line.new }
+    requires { Taking order.now table.now placing.now line.old }
+    ensures { Taken order.now placing.now line.old result line.new }
 {
     let Some(task) = turns::next_task(order, &placing.homes) else {
-        return Ok(placing);
+        return Ok(*placing);
     };
     let deadline = table.deadlines[task];
     if let Some(home) = line.lowest_accepting(table, task, placing.opened) {
@@ -54,7 +54,7 @@ pub fn take_turns(order: &Order, line: &mut Line) -> Result<Placing, Refusal>
     let table = roster::row_table(*order);
     let mut placing = Placing::nothing();
     for _ in 0..order.tasks {
-        placing = take_turn(order, &table, placing, line)?;
+        placing = take_turn(order, &table, &placing, line)?;
     }
     Ok(placing)
 }
