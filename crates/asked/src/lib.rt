@@ -106,6 +106,7 @@ pub fn met(rows: &Rows, count: usize, base: u64, from: u32, limit: u32) -> Searc
         wait: 1,
         waited: 1,
     };
+    // No range: the next tick is the one that the search finds.
     while w <= limit {
         let on = (base + all).max(u64::from(w) + 1) - 1;
         if on < u64::from(next) {

@@ -14,7 +14,7 @@ pub struct Row {
     pub deadline: u32,
 }
 
-// Rows by kind of number, each number at its member's rank. Columns: with a list of rows a step of 16 members took 1.6 times as long.
+// Rows by kind of number, each number at its member's rank. Columns: in a copy of the step in Rust a list of rows took 1.05 to 1.6 times as long.
 #[derive(Clone, Copy)]
 pub struct Rows {
     pub periods: [u32; Order::MOST_TASKS],

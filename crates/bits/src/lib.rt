@@ -15,6 +15,13 @@ pub struct Cursor {
     pub at: usize,
 }
 
+// A field taken, and the cursor past it.
+#[derive(Clone, Copy)]
+pub struct Taken {
+    pub value: u32,
+    pub next: Cursor,
+}
+
 // Past the end every byte is 0.
 fn byte_at(s: &[u8], i: usize) -> u64
     ensures { (result ≡ get_or s.now i 0) × (result < 256) }
@@ -43,19 +50,21 @@ fn values(width: usize) -> u64
 }
 
 impl Cursor {
-    // The field of so many bits at the cursor, which moves past it.
-    pub fn take(&mut self, s: &[u8], width: usize) -> u32
-        requires { (self.old.at ≤ 1_000_000) × (width ≤ 32) }
-        ensures value { result ≡ field s.now self.old.at width }
-        ensures past { self.new.at ≡ self.old.at + width }
+    // The field of so many bits at the cursor, and the cursor past it.
+    pub fn take(self, s: &[u8], width: usize) -> Taken
+        requires { (self.at ≤ 1_000_000) × (width ≤ 32) }
+        ensures value { result.value ≡ field s.now self.at width }
+        ensures past { result.next.at ≡ self.at + width }
     {
         let end = self.at + width;
         let from = self.at / 8;
         let count = end.div_ceil(8) - from;
         let past = 8 * (from + count) - end;
         let number = number_at(s, from, count);
-        self.at = end;
-        ((number >> past) % values(width)) as u32
+        Taken {
+            value: ((number >> past) % values(width)) as u32,
+            next: Cursor { at: end },
+        }
     }
 }
 

@@ -20,7 +20,7 @@ pub struct BuildHeader {
     pub partitions: u32,
 }
 
-// A build taken, and whether no spare bit is set. The flag stays: late and show read the build in both cases, which TakesBuild promises.
+// A build taken, and whether no spare bit is set. The flag stays: TakesBuild promises the build whatever it says.
 #[derive(Clone, Copy)]
 pub struct BuildTaken {
     pub clear: bool,

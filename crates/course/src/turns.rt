@@ -50,6 +50,7 @@ impl Tables<'_> {
     {
         let mut ahead = from;
         let mut set: u32 = 0;
+        // No range: the next record is read from a table.
         while stepper::joined(self.keys, ahead, tick) {
             let i = ahead as usize;
             set = stepper::with_rank(set, self.ranks[(self.keys[i] % 32) as usize]);
@@ -91,6 +92,7 @@ impl Tables<'_> {
         ensures { (so : BeginsIn self.now start (length out.old)) → FinishesNoted so.turns.order so.turns.build so.turns.script so.turns.partition out.old out.new }
     {
         let mut m = start;
+        // No range: each step is as long as to the next event.
         while goes_on(m) {
             m = self.turn(m);
             note(m, out);

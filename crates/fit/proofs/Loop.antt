@@ -45,7 +45,7 @@ module _ (o : Order) (limits : WithinLimits o) where
           known = record {
             last_places = refl;
             worst_places = refl;
-            homes_few = λ j l p. clash (sym p ∙ waits j l);
+            homes_there = λ j l p. clash (sym p ∙ waits j l);
             waiting = λ j l u. get_or_alike most_tasks j 0;
             near = λ j l. subst (λ (x : ℕ). x ≤ 2_000_000) (sym (get_or_alike {A = ℕ} most_tasks j 0)) (omega arith);
             unclosed = λ j l p. clash (sym p ∙ waits j l);

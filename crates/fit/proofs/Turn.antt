@@ -172,7 +172,7 @@ module _ (o : Order) (table : Rows) (s : Placing) (line : Line) (t : Taking o ta
       was_placed j away p = sym (put-unplaced homes i k room j away) ∙ p
 
       kept : (j : ℕ) → j < o.tasks → j ≢ i → is_unplaced homes j ≡ false → (x : ℕ) → x < o.tasks → living_in homes'' (home_at homes'' j) x ≡ living_in homes (home_at homes j) x
-      kept j l away p x lx = living_kept homes i k room next.waiting j (alone j l away) (t.lines.known.homes_few j l p) x
+      kept j l away p x lx = living_kept homes i k room next.waiting j (alone j l away) (t.lines.known.homes_there j l p) x
 
       passing_then : (j : ℕ) → j < o.tasks → is_unplaced homes'' j ≡ false → verdict o (living_in homes'' (home_at homes'' j)) j ≡ Ok (get_or worsts' j 0)
       passing_then j l p = elim (ℕ_discrete j i) [
@@ -194,9 +194,9 @@ module _ (o : Order) (table : Rows) (s : Placing) (line : Line) (t : Taking o ta
           record {
             last_places = t.lines.known.last_places;
             worst_places = ap (λ (xs : List ℕ). length xs) put-worst ∙ length-set worsts i (cost_at table i) ∙ t.lines.known.worst_places;
-            homes_few = λ j l p. elim (ℕ_discrete j i) [
-              | yes e ↦ omega (arith, ap (home_at homes'') e, put_here homes i k room, opened_few)
-              | no away ↦ omega (arith, put_other homes i k room j away, t.lines.known.homes_few j l (was_placed j away p))
+            homes_there = λ j l p. elim (ℕ_discrete j i) [
+              | yes e ↦ (λ z. omega (arith, z, ap (home_at homes'') e, put_here homes i k room, opened_few))
+              | no away ↦ (λ z. t.lines.known.homes_there j l (was_placed j away p) (omega (arith, z, put_other homes i k room j away)))
             ];
             waiting = λ j l u. (let away : j ≢ i = λ e. clash (sym (put_placed homes i k room opened_few) ∙ ap (is_unplaced homes'') (sym e) ∙ u) in
                 t.lines.known.waiting j l (sym (put-unplaced homes i k room j away) ∙ u));

@@ -33,12 +33,12 @@ fn records_of(line: &Line) -> [Member; Order::MOST_TASKS]
 }
 
 // The order's build by first fit, or the task that was refused.
-pub fn first_fit(order: &Order) -> Result<Build, Refusal>
-    requires { WithinLimits order.now }
-    ensures { FitsFirst order.now result }
+pub fn first_fit(order: Order) -> Result<Build, Refusal>
+    requires { WithinLimits order }
+    ensures { FitsFirst order result }
 {
     let mut line = Line::empty();
-    let placing = taking::take_turns(order, &mut line)?;
+    let placing = taking::take_turns(&order, &mut line)?;
     let places = placing.places;
     let members = records_of(&line);
     Ok(Build {

@@ -112,14 +112,14 @@ module _ (homes : Homes) (i k : ℕ) (room : i < length homes) where
         ∙ sum_with (is_unplaced (set homes i (Some k))) (λ j. 1) i (put_placed open-one) n below
 
   -- a placed task of another partition keeps its members
-  pub living_kept : is_unplaced homes i ≡ true → (j : ℕ) → living_in (set homes i (Some k)) k j ≡ false → home_at homes j < unplaced
+  pub living_kept : is_unplaced homes i ≡ true → (j : ℕ) → living_in (set homes i (Some k)) k j ≡ false → (home_at homes j ≡ unplaced → ⊥)
       → (x : ℕ) → living_in (set homes i (Some k)) (home_at (set homes i (Some k)) j) x ≡ living_in homes (home_at homes j) x
-  living_kept waits j out low x =
+  living_kept waits j out there x =
       let other : home_at (set homes i (Some k)) j ≡ k → ⊥ = away_says (set homes i (Some k)) k j out in
       let away : j ≡ i → ⊥ = λ e. other (ap (home_at (set homes i (Some k))) e ∙ put_here) in
       elim (ℕ_discrete x i) [
         | yes e ↦
             says_away (set homes i (Some k)) (home_at (set homes i (Some k)) j) x (λ s. other (sym s ∙ ap (home_at (set homes i (Some k))) e ∙ put_here))
-            ∙ sym (says_away homes (home_at homes j) x (λ s. omega (arith, low, s, ap (home_at homes) e, unplaced_says homes i waits)))
+            ∙ sym (says_away homes (home_at homes j) x (λ s. there (omega (arith, s, ap (home_at homes) e, unplaced_says homes i waits))))
         | no ne ↦ living_same (set homes i (Some k)) homes (home_at (set homes i (Some k)) j) (home_at homes j) x (put_other x ne) (put_other j away)
       ]

@@ -44,7 +44,7 @@ module _ (o : Order) (limits : WithinLimits o) (homes : Homes) (opened placed : 
     still_passes j l p false e =
         let away : j ≡ i → ⊥ = λ s. away_says (set homes i (Some k)) k j e (ap (home_at (set homes i (Some k))) s ∙ put_here homes i k room) in
         let before : is_unplaced homes j ≡ false = sym (put-unplaced homes i k room j away) ∙ p in
-        ap does_pass (verdict_same o (living_in (set homes i (Some k)) (home_at (set homes i (Some k)) j)) (living_in homes (home_at homes j)) j (λ x lx. living_kept homes i k room next.waiting j e (omega (arith, was.in_one j l before, le, small, grown)) x)) ∙ was.passes j l before
+        ap does_pass (verdict_same o (living_in (set homes i (Some k)) (home_at (set homes i (Some k)) j)) (living_in homes (home_at homes j)) j (λ x lx. living_kept homes i k room next.waiting j e (λ z. omega (arith, z, was.in_one j l before, le, small, grown)) x)) ∙ was.passes j l before
 
     pub numbered_put : Numbered o (set homes i (Some k)) more (placed + 1)
     numbered_put =

@@ -29,12 +29,12 @@ fn judge_records(order: &Order, build: &Build) -> Result<(), Refusal>
 }
 
 // 20 to 30, of an order that was read; and the build.
-fn check_build(order: &Order, build: &[u8]) -> Result<Build, Refusal>
-    requires { WithinLimits order.now }
-    ensures { result ≡ given (build_at build.now) (first_broken 0 (build_rules order.now build.now)) }
+fn check_build(order: Order, build: &[u8]) -> Result<Build, Refusal>
+    requires { WithinLimits order }
+    ensures { result ≡ given (build_at build.now) (first_broken 0 (build_rules order build.now)) }
 {
-    let read = inspect_layout::judge_layout(order, build)?;
-    judge_records(order, &read)?;
+    let read = inspect_layout::judge_layout(&order, build)?;
+    judge_records(&order, &read)?;
     Ok(read)
 }
 
@@ -43,7 +43,7 @@ pub fn check_both(order: &[u8], build: &[u8]) -> Result<Accepted, Refusal>
     ensures { ChecksBoth order.now build.now result }
 {
     let order = order::read(order)?;
-    let build = check_build(&order, build)?;
+    let build = check_build(order, build)?;
     Ok(Accepted { order, build })
 }
 

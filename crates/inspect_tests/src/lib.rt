@@ -124,6 +124,7 @@ fn test_all(table: &Rows, keys: &[u32; Order::MOST_TASKS], tasks: usize) -> Resu
     let mut lasts = [0u32; Order::MOST_TASKS];
     let mut lowest = Order::MOST_TASKS;
     let mut first: usize = 0;
+    // No range: each step is as long as a partition.
     while first < tasks {
         let part = test_part(table, keys, tasks, first, lowest, &mut lasts, &mut worsts);
         lowest = part.lowest;

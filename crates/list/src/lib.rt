@@ -18,7 +18,7 @@ pub const MOST_TEXT: usize = 1_024;
 // The largest number of a list.
 const MOST_LISTED: u32 = 63;
 
-// A list read: the answer, and its set, empty on refusal.
+// A list read: the answer, and its set, empty on refusal, as ReadsList says.
 #[derive(Clone, Copy)]
 pub struct ListReading {
     pub answer: Result<u32, Refusal>,

@@ -321,7 +321,7 @@ impl Refusal {
     }
 }
 
-// What reading an order gives; where it is refused, the order is empty.
+// What reading an order gives; where it is refused, the order is empty. Beside the answer, not in it: RefusedReadsZero says so.
 #[derive(Clone, Copy, Debug, PartialEq, Eq)]
 pub struct Reading {
     pub answer: Result<u32, Refusal>,

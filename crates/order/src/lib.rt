@@ -24,7 +24,7 @@ pub struct Header {
 pub fn read_header(order: &[u8]) -> Header
     ensures { result ≡ header_of order.now }
 {
-    let mut reader = OrderReader::new(order, 0);
+    let mut reader = OrderReader { order, at: 0 };
     Header {
         version: reader.take(4),
         processors: reader.take(7),
@@ -35,9 +35,9 @@ pub fn read_header(order: &[u8]) -> Header
 
 // The record of a task at which the reader stands, front to back, or 6 where a spare bit of it is set.
 fn read_task(reader: &mut OrderReader, number: u16) -> Result<Task, Refusal>
-    requires { (reader.old.cursor.at ≡ task_start number) × (number < most_tasks) }
+    requires { (reader.old.at ≡ task_start number) × (number < most_tasks) }
     ensures task { result ≡ task_read reader.old.order.now number }
-    ensures next { reader.new.cursor.at ≡ task_start (number + 1) }
+    ensures next { reader.new.at ≡ task_start (number + 1) }
     ensures order { reader.new.order ≡ reader.old.order }
 {
     let task = Task {
@@ -57,7 +57,10 @@ fn read_table(order: &[u8], tasks: usize) -> Result<[Task; Order::MOST_TASKS], R
     requires { tasks ≤ most_tasks }
     ensures { result ≡ table_read order.now tasks }
 {
-    let mut reader = OrderReader::new(order, 8 * Order::HEADER_BYTES);
+    let mut reader = OrderReader {
+        order,
+        at: 8 * Order::HEADER_BYTES,
+    };
     let mut table = [Task::zero(); Order::MOST_TASKS];
     for i in 0..tasks {
         table[i] = read_task(&mut reader, i as u16)?;

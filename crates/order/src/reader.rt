@@ -8,26 +8,18 @@ use bits::Cursor;
 #[derive(Clone, Copy)]
 pub struct OrderReader<'a> {
     pub order: &'a [u8],
-    pub cursor: Cursor,
+    pub at: usize,
 }
 
-impl<'a> OrderReader<'a> {
-    pub fn new(order: &'a [u8], at: usize) -> Self
-        ensures order { result.order ≡ order.entry }
-        ensures at { result.cursor.at ≡ at }
-    {
-        Self {
-            order,
-            cursor: Cursor { at },
-        }
-    }
-
+impl OrderReader<'_> {
     // The field of so many bits; the reader moves past it.
     pub fn take(&mut self, width: usize) -> u32
-        requires { (self.old.cursor.at ≤ 1_000_000) × (width ≤ 32) }
-        ensures taken { TakesField self.old.order.now self.old.cursor.at width result self.new.cursor.at }
+        requires { (self.old.at ≤ 1_000_000) × (width ≤ 32) }
+        ensures taken { TakesField self.old.order.now self.old.at width result self.new.at }
         ensures order { self.new.order ≡ self.old.order }
     {
-        self.cursor.take(self.order, width)
+        let taken = Cursor { at: self.at }.take(self.order, width);
+        self.at = taken.next.at;
+        taken.value
     }
 }

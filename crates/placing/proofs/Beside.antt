@@ -287,16 +287,16 @@ module _ (o : Order) (limits : WithinLimits o) (homes : Homes) (places : length 
         was_placed j out p = sym (put-unplaced homes task k room j (away_from j out)) ∙ p
 
         -- and its members are the same
-        same_members : (j : ℕ) → home_at homes j < unplaced → living_in homes' k j ≡ false → (x : ℕ) → x < o.tasks
+        same_members : (j : ℕ) → (home_at homes j ≡ unplaced → ⊥) → living_in homes' k j ≡ false → (x : ℕ) → x < o.tasks
             → living_in homes' (home_at homes' j) x ≡ living_in homes (home_at homes j) x
-        same_members j low out x l = living_kept homes task k room waits j out low x
+        same_members j there out x l = living_kept homes task k room waits j out there x
 
         waiting_now : (j : ℕ) → j < o.tasks → is_unplaced homes' j ≡ true → living_in homes' k j ≡ false
         waiting_now j l u = says_away homes' k j (λ e. omega (arith, unplaced_says homes' j u, e))
 
-        few_now : (j : ℕ) → j < o.tasks → is_unplaced homes' j ≡ false → (b : Bool) → living_in homes' k j ≡ b → home_at homes' j < unplaced
-        few_now j l p true m = omega (arith, living_says homes' k j m, few)
-        few_now j l p false m = omega (arith, other j (away_from j m), known.homes_few j l (was_placed j m p))
+        there_now : (j : ℕ) → j < o.tasks → is_unplaced homes' j ≡ false → (b : Bool) → living_in homes' k j ≡ b → home_at homes' j ≡ unplaced → ⊥
+        there_now j l p true m z = omega (arith, z, living_says homes' k j m, few)
+        there_now j l p false m z = known.homes_there j l (was_placed j m p) (omega (arith, z, other j (away_from j m)))
 
         near_now : (j : ℕ) → j < o.tasks → (b : Bool) → living_in homes' k j ≡ b → get_or lasts' j 0 ≤ 2_000_000
         near_now j l true m =
@@ -313,7 +313,7 @@ module _ (o : Order) (limits : WithinLimits o) (homes : Homes) (places : length 
         open_now j l p false m =
             let was = was_placed j m p in
             subst (OpenUntil o (living_in homes' (home_at homes' j)) j) (sym (last_kept j m))
-            (open_more o (living_in homes (home_at homes j)) (living_in homes' (home_at homes' j)) (λ x lx e. same_members j (known.homes_few j l was) m x lx ∙ e) j (get_or lasts j 0) (known.unclosed j l was))
+            (open_more o (living_in homes (home_at homes j)) (living_in homes' (home_at homes' j)) (λ x lx e. same_members j (known.homes_there j l was) m x lx ∙ e) j (get_or lasts j 0) (known.unclosed j l was))
 
         passing_now : (j : ℕ) → j < o.tasks → is_unplaced homes' j ≡ false → (b : Bool) → living_in homes' k j ≡ b → verdict o (living_in homes' (home_at homes' j)) j ≡ Ok (get_or worsts' j 0)
         passing_now j l p true m =
@@ -323,14 +323,14 @@ module _ (o : Order) (limits : WithinLimits o) (homes : Homes) (places : length 
             ∙ subst (λ (x : ℕ). verdict o (living_in homes' k) x ≡ Ok (get_or worsts' x 0)) place.2 (sym (verdict_there r place.1) ∙ after.stand r place.1)
         passing_now j l p false m =
             let was = was_placed j m p in
-            verdict_same o (living_in homes' (home_at homes' j)) (living_in homes (home_at homes j)) j (same_members j (known.homes_few j l was) m) ∙ known.passing j l was ∙ ap Ok (sym (worst_kept j m))
+            verdict_same o (living_in homes' (home_at homes' j)) (living_in homes (home_at homes j)) j (same_members j (known.homes_there j l was) m) ∙ known.passing j l was ∙ ap Ok (sym (worst_kept j m))
 
         pub known_now : Known o homes' lasts' worsts'
         known_now =
             record {
               last_places = after.bounds.places;
               worst_places = after.places;
-              homes_few = λ j l p. few_now j l p (living_in homes' k j) refl;
+              homes_there = λ j l p. there_now j l p (living_in homes' k j) refl;
               waiting = λ j l u.
                   (let out = waiting_now j l u in
                   last_kept j out ∙ known.waiting j l (sym (put-unplaced homes task k room j (away_from j out)) ∙ u));

@@ -25,7 +25,7 @@ OpenUntil o member i last = UnmetBelow (λ w. higher_work o member i w + work_by
 pub record Known (o : Order) (homes : Homes) (lasts worsts : List ℕ) : Type 0 where
   pub last_places : length lasts ≡ most_tasks
   pub worst_places : length worsts ≡ most_tasks
-  pub homes_few : (j : ℕ) → j < o.tasks → is_unplaced homes j ≡ false → home_at homes j < unplaced
+  pub homes_there : (j : ℕ) → j < o.tasks → is_unplaced homes j ≡ false → home_at homes j ≡ unplaced → ⊥
   pub waiting : (j : ℕ) → j < o.tasks → is_unplaced homes j ≡ true → get_or lasts j 0 ≡ 0
   pub near : (j : ℕ) → j < o.tasks → get_or lasts j 0 ≤ 2_000_000
   pub unclosed : (j : ℕ) → j < o.tasks → is_unplaced homes j ≡ false → OpenUntil o (living_in homes (home_at homes j)) j (get_or lasts j 0)

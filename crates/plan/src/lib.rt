@@ -24,6 +24,6 @@ pub fn plan(order: &[u8], out: &mut [u8]) -> Result<u32, Refusal>
     ensures { Plans order.now out.old result out.new }
 {
     let order = order::read(order)?;
-    let build = fit::first_fit(&order)?;
+    let build = fit::first_fit(order)?;
     put_build(build, out)
 }

@@ -6,7 +6,8 @@ ghost use Rattle.run.specs.Run.{RanScript, Ran};
 
 use model::{Build, Order, Refusal, Release};
 
-// 40 to 46 and the finish ticks, of an order and a build that were checked.
+// 40 to 46 and the finish ticks, of an order and a build that were checked. Apart, so that the check's stack is free by then.
+#[inline(never)]
 fn run_checked(order: Order, build: Build, script: &[u8], out: &mut [u32]) -> Result<u32, Refusal>
     requires { AcceptedBuild order build }
     ensures { RanScript order build script.now out.old result out.new }

@@ -62,6 +62,7 @@ pub fn read_full(input: &mut impl Read, bytes: &mut [u8]) -> usize
     ensures { IsPrefixLen result bytes.new }
 {
     let mut done: usize = 0;
+    // No range: a step is as long as what a read gave.
     while done < bytes.len() {
         match input.read(&mut bytes[done..]).unwrap_or(0) {
             0 => break,

@@ -43,6 +43,7 @@ fn put_lines(out: &mut [u8], order: &Order)
     ensures { out.new ≡ order_text order.now ++ drop (length (order_text order.now)) out.old }
 {
     let mut output = Output::new(out);
+    // By place: that a table behind & has 32 tasks is no known fact, so its front is not proved to be there.
     for line in 0..order.tasks as usize {
         put_line(&mut output, order.table[line]);
     }

@@ -60,6 +60,7 @@ fn jobs(rows: &Rows, rank: usize, blocking: u32, from: u32) -> Tested
     let mut release: u32 = 0;
     let mut begin = from;
     let mut worst: u32 = 0;
+    // No range: base, begin and release go on together, and the loop ends where the window closes.
     while release < Task::HORIZON {
         let due = release + deadline - cost;
         let search = asked::met(rows, rank, u64::from(base) + 1, begin, due);

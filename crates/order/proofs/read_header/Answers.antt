@@ -7,7 +7,7 @@ use Rattle.order.proofs.read_header.Goals as goal
 pub returns : goal.returns
 unfolding header_of numbers_at
 returns c =
-    let at-two : c.take.new.self.cursor.at ≡ 4 = omega arith in
-    let at-three : c.take-2.new.self.cursor.at ≡ 11 = omega arith in
-    let at-four : c.take-3.new.self.cursor.at ≡ 17 = omega arith in
+    let at-two : c.take.new.self.at ≡ 4 = omega arith in
+    let at-three : c.take-2.new.self.at ≡ 11 = omega arith in
+    let at-four : c.take-3.new.self.at ≡ 17 = omega arith in
     cc

@@ -1,6 +1,6 @@
 use Rattle.std.specs.Prelude.{Ok}
 use lib.ListN.{replicate}
-use mathlib.Core.Path.{◌≡◌, sym, ap, ◌∙◌}
+use mathlib.Core.Path.{◌≡◌, refl, sym, ap, ◌∙◌}
 use native.Mathlib.Nat.{le_antisymm}
 use native.Mathlib.Omega.{arith}
 use Rattle.laws.proofs.Joined.{filled_none, filled_more}
@@ -12,7 +12,7 @@ use Rattle.order.proofs.read_table.Goals as goal
 
 pub loop-i-init : goal.loop-i-init
 loop-i-init c =
-    (c.new-reader.ensures.at, cc, spare_none _, ap (replicate most_tasks) c.zero-table.ensures ∙ filled_none (task_at c.args.order.now) zero_task most_tasks)
+    (refl, refl, spare_none _, ap (replicate most_tasks) c.zero-table.ensures ∙ filled_none (task_at c.args.order.now) zero_task most_tasks)
 
 pub returns-in_err-table : goal.returns-in_err-table
 returns-in_err-table c =

@@ -6,4 +6,4 @@ use Rattle.order.specs.Order.{task_start, task_at, spare_rules}
 use Rattle.order.proofs.read_table.Given as goal
 
 abbrev pub invariant-loop-i : goal.invariant-loop-i
-invariant-loop-i l = (l.reader.cursor.at ≡ task_start l.i) × (l.reader.order.now ≡ l.order) × AllPass (spare_rules l.order l.i) × (l.table ≡ filled (task_at l.order) zero_task most_tasks l.i)
+invariant-loop-i l = (l.reader.at ≡ task_start l.i) × (l.reader.order.now ≡ l.order) × AllPass (spare_rules l.order l.i) × (l.table ≡ filled (task_at l.order) zero_task most_tasks l.i)
