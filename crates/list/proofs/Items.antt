@@ -42,26 +42,26 @@ item_span item right =
         (λ e. let l = ltb-true k _ e in le-leb k item.last (omega (arith, l, right.rises)))
 
 -- of an item that is taken: what it is, and that it is right
-pub record ItemHeld (item : Item) (ends : ℕ) (answer : Answer) (taken : ItemTaken) : Type 0 where
+pub record ItemHeld (item : Item) (ends : ℕ) (answer : Answer) (taken : ItemTaken) (next : ℕ) : Type 0 where
   pub done : (count : ℕ) × (answer ≡ Ok count)
   pub first_is : taken.first ≡ item.first
   pub last_is : taken.last ≡ item.last
-  pub next_at : taken.next ≡ ends
+  pub next_at : next ≡ ends
   pub right : ItemRight item
 
-pub item_held : (item : Item) (ends : ℕ) (answer : Answer) (found : Result ItemTaken Refusal) (taken : ItemTaken) → HoldsItem item ends answer found → found ≡ Ok taken → ItemHeld item ends answer taken
-item_held item ends answer found taken holds e =
-    let given-so = done_given (held_item item ends) answer (sym holds.answered ∙ e) in
+pub item_held : (item : Item) (ends : ℕ) (answer : Answer) (found : Result ItemTaken Refusal) (next : ℕ) (taken : ItemTaken) → HoldsItem item ends answer found next → found ≡ Ok taken → ItemHeld item ends answer taken next
+item_held item ends answer found next taken holds e =
+    let given-so = done_given (held_item item) answer (sym holds.answered ∙ e) in
     record {
       done = (given-so.0, given-so.1);
       first_is = ap (λ (t : ItemTaken). t.first) given-so.2;
       last_is = ap (λ (t : ItemTaken). t.last) given-so.2;
-      next_at = ap (λ (t : ItemTaken). t.next) given-so.2;
+      next_at = holds.next_at taken e;
       right = holds.right taken e;
     }
 
-pub taken_span : (item : Item) (ends : ℕ) (answer : Answer) (taken : ItemTaken) → ItemHeld item ends answer taken → item_set item ≡ span taken.first (taken.last + 1 - taken.first)
-taken_span item ends answer taken held =
+pub taken_span : (item : Item) (ends : ℕ) (answer : Answer) (taken : ItemTaken) (next : ℕ) → ItemHeld item ends answer taken next → item_set item ≡ span taken.first (taken.last + 1 - taken.first)
+taken_span item ends answer taken next held =
     item_span item held.right ∙ ap (λ (first : ℕ). span first (item.last + 1 - first)) (sym held.first_is) ∙ ap (λ (last : ℕ). span taken.first (last + 1 - taken.first)) (sym held.last_is)
 
 -- the first item decides where it is refused, and is passed over where it is not
@@ -104,61 +104,61 @@ module _ (text : List ℕ) where
   pub all_left : ItemsLeft 0 0
   all_left = record { inside = omega arith; word = omega arith; answer_left = λ _. refl; set_left = λ _. sym (union_none (all_set text) (items_set_is_set (items_in (count is_comma text) text))); answer_over = λ past. absurd (omega (arith, past)); set_over = λ past. absurd (omega (arith, past)) }
 
-  module _ (at set : ℕ) (left : ItemsLeft at set) (inside : at ≤ length text) (found : Result ItemTaken Refusal) (takes : TakesItem (drop at text) at found) where
+  module _ (at set : ℕ) (left : ItemsLeft at set) (inside : at ≤ length text) (found : Result ItemTaken Refusal) (next : ℕ) (takes : TakesItem (drop at text) at found next) where
     abbrev s : List ℕ
     s = drop at text
 
     pub items_stop : (refusal : Refusal) → found ≡ Err refusal → all_answer text ≡ Err refusal
-    items_stop refusal e = left.answer_left inside ∙ first_stops at (count is_comma s) s refusal refl (refused_given (held_item (item_of (up_to is_comma s)) (at + length (up_to is_comma s))) _ (sym takes.answered ∙ e))
+    items_stop refusal e = left.answer_left inside ∙ first_stops at (count is_comma s) s refusal refl (refused_given (held_item (item_of (up_to is_comma s))) _ (sym takes.answered ∙ e))
 
-    pub items_more : (taken : ItemTaken) → found ≡ Ok taken → ItemsLeft (taken.next + 1) (union set (item_set (item_of (up_to is_comma s))))
+    pub items_more : (taken : ItemTaken) → found ≡ Ok taken → ItemsLeft (next + 1) (union set (item_set (item_of (up_to is_comma s))))
     items_more taken e = go (count is_comma s) refl
       where
-        held : ItemHeld (item_of (up_to is_comma s)) (at + length (up_to is_comma s)) (first_broken 0 (item_rules at (up_to is_comma s))) taken
-        held = item_held _ _ _ found taken takes e
+        held : ItemHeld (item_of (up_to is_comma s)) (at + length (up_to is_comma s)) (first_broken 0 (item_rules at (up_to is_comma s))) taken next
+        held = item_held _ _ _ found next taken takes e
 
         here : first_broken 0 (item_rules at (up_to is_comma s)) ≡ Ok held.done.0
         here = held.done.1
 
-        next : taken.next + 1 ≡ at + suc (length (up_to is_comma s))
-        next = omega (arith, held.next_at)
+        behind_item : next + 1 ≡ at + suc (length (up_to is_comma s))
+        behind_item = omega (arith, held.next_at)
 
         size : length s ≡ length text - at
         size = length-drop at text
 
-        go : (n : ℕ) → count is_comma s ≡ n → ItemsLeft (taken.next + 1) (union set (item_set (item_of (up_to is_comma s))))
+        go : (n : ℕ) → count is_comma s ≡ n → ItemsLeft (next + 1) (union set (item_set (item_of (up_to is_comma s))))
         go zero is =
             let end : length (up_to is_comma s) ≡ length s = ap length (up_to_none is_comma s is) in
             let answered = left.answer_left inside ∙ ap (λ (n : ℕ). first_broken 0 (items_rules at n s)) is ∙ last_passes at s held.done.0 is here in
             let processors = left.set_left inside ∙ ap (λ (n : ℕ). union set (items_set (items_in n s))) is ∙ last_set set s is in
             record {
-              inside = omega (arith, next, end, size, inside);
+              inside = omega (arith, behind_item, end, size, inside);
               word = union_is_set set _;
-              answer_left = λ within. absurd (omega (arith, within, next, end, size, inside));
-              set_left = λ within. absurd (omega (arith, within, next, end, size, inside));
+              answer_left = λ within. absurd (omega (arith, within, behind_item, end, size, inside));
+              set_left = λ within. absurd (omega (arith, within, behind_item, end, size, inside));
               answer_over = λ _. answered;
               set_over = λ _. processors;
             }
         go (suc n) is =
             let some = up_to_ends is_comma s (omega (arith, is)) in
-            let rest : behind is_comma s ≡ drop (taken.next + 1) text = drop-drop (suc (length (up_to is_comma s))) at text ∙ ap (λ (k : ℕ). drop k text) (sym next) in
-            let counted : count is_comma (drop (taken.next + 1) text) ≡ n = ap (count is_comma) (sym rest) ∙ count_behind_less is_comma s ∙ omega (arith, is) in
+            let rest : behind is_comma s ≡ drop (next + 1) text = drop-drop (suc (length (up_to is_comma s))) at text ∙ ap (λ (k : ℕ). drop k text) (sym behind_item) in
+            let counted : count is_comma (drop (next + 1) text) ≡ n = ap (count is_comma) (sym rest) ∙ count_behind_less is_comma s ∙ omega (arith, is) in
             let answered =
             left.answer_left inside ∙ ap (λ (n : ℕ). first_broken 0 (items_rules at n s)) is ∙ first_passes at n s held.done.0 here
-            ∙ ap (λ (k : ℕ). first_broken 0 (items_rules k n (behind is_comma s))) (sym next)
-            ∙ ap (λ (u : List ℕ). first_broken 0 (items_rules (taken.next + 1) n u)) rest
-            ∙ ap (λ (k : ℕ). first_broken 0 (items_rules (taken.next + 1) k (drop (taken.next + 1) text))) (sym counted) in
+            ∙ ap (λ (k : ℕ). first_broken 0 (items_rules k n (behind is_comma s))) (sym behind_item)
+            ∙ ap (λ (u : List ℕ). first_broken 0 (items_rules (next + 1) n u)) rest
+            ∙ ap (λ (k : ℕ). first_broken 0 (items_rules (next + 1) k (drop (next + 1) text))) (sym counted) in
             let processors =
             left.set_left inside ∙ ap (λ (n : ℕ). union set (items_set (items_in n s))) is ∙ first_set n set s
             ∙ ap (λ (u : List ℕ). union (union set (item_set (item_of (up_to is_comma s)))) (items_set (items_in n u))) rest
-            ∙ ap (λ (k : ℕ). union (union set (item_set (item_of (up_to is_comma s)))) (items_set (items_in k (drop (taken.next + 1) text)))) (sym counted) in
+            ∙ ap (λ (k : ℕ). union (union set (item_set (item_of (up_to is_comma s)))) (items_set (items_in k (drop (next + 1) text)))) (sym counted) in
             record {
-              inside = omega (arith, next, some, size, inside);
+              inside = omega (arith, behind_item, some, size, inside);
               word = union_is_set set _;
               answer_left = λ _. answered;
               set_left = λ _. processors;
-              answer_over = λ past. absurd (omega (arith, past, next, some, size, inside));
-              set_over = λ past. absurd (omega (arith, past, next, some, size, inside));
+              answer_over = λ past. absurd (omega (arith, past, behind_item, some, size, inside));
+              set_over = λ past. absurd (omega (arith, past, behind_item, some, size, inside));
             }
 
 -- a reading has the answer

@@ -6,11 +6,10 @@ use mathlib.Core.List.{List}
 use Prim.Native.Nat.{ℕ, suc, ◌+◌, ◌-◌, ◌≤◌, ◌<◌}
 use native.Mathlib.Omega.{arith}
 use native.Mathlib.Nat.{add-zero}
-use native.Mathlib.Decide.{dec_le}
-use lib.ListN.{length, get_or, drop, drop_of_length-le, get_or-eq_default}
+use lib.ListN.{length, get_or, drop, drop_of_length-le}
 use lib.Seq.{drop-cons, drop-drop, get_or-drop}
 use lib.Dec.{eqb}
-use borrow.Author.Tests.{eq-eqb, ne_eqb, eqb-true}
+use borrow.Author.Tests.{eq-eqb, ne_eqb}
 use Rattle.model.specs.Kinds.{Answer}
 use Rattle.model.specs.declared.answer.Refusal.{Refusal}
 use Rattle.model.specs.declared.answer.Refusal.TheVariants.{OfList}
@@ -43,17 +42,9 @@ module _ (text : List ℕ) (at : ℕ) where
 pub left_at : (text : List ℕ) (at next : ℕ) → next ≡ at + length (digits_of (drop at text)) → behind_digits (drop at text) ≡ drop next text
 left_at text at next n = drop-drop (length (digits_of (drop at text))) at text ∙ ap (λ (k : ℕ). drop k text) (sym n)
 
--- a dash stands in the text
-pub dash_inside : (text : List ℕ) (at : ℕ) → eqb (get_or text at 0) dash ≡ true → at + 1 ≤ length text
-dash_inside text at e = go (dec_le (length text) at)
-  where
-    go : Dec (length text ≤ at) → at + 1 ≤ length text
-    go (yes past) = let none = get_or-eq_default text 0 past in let here = eqb-true (get_or text at 0) dash e in absurd (omega (arith, none, here))
-    go (no inside) = omega (arith, inside)
-
 -- an item by its parts
-same_item : {first last next first' last' next' : ℕ} → first ≡ first' → last ≡ last' → next ≡ next' → held_item (record { first = first; last = last }) next ≡ held_item (record { first = first'; last = last' }) next'
-same_item f l n = rw (f, l, n)
+same_item : {first last first' last' : ℕ} → first ≡ first' → last ≡ last' → held_item (record { first = first; last = last }) ≡ held_item (record { first = first'; last = last' })
+same_item f l = rw (f, l)
 
 no_item : {A : Type 0} {refusal : Refusal} {taken : ItemTaken} → Err refusal ≡ Ok taken → A
 no_item e = let z : ◌≡◌ {A = ℕ} 0 1 = cc in absurd (omega arith)
@@ -64,15 +55,15 @@ module _ (text : List ℕ) (at first value next : ℕ) (exact : value ≡ capped
   s = drop at text
 
   abbrev held_last : ItemTaken
-  held_last = held_item (record { first = first; last = value_of (digits_of s) }) (at + length (up_to is_comma s))
+  held_last = held_item (record { first = first; last = value_of (digits_of s) })
 
-  last_stopped : (refusal : Refusal) → first_broken 0 (last_rules first at (up_to is_comma s)) ≡ Err refusal → TakesLast first s at (Err refusal)
-  last_stopped refusal e = record { answered = sym (given_refused held_last _ e); right = λ taken done. no_item done }
+  last_stopped : (refusal : Refusal) → first_broken 0 (last_rules first at (up_to is_comma s)) ≡ Err refusal → TakesLast first s at (Err refusal) next
+  last_stopped refusal e = record { answered = sym (given_refused held_last _ e); next_at = λ taken done. no_item done; right = λ taken done. no_item done }
 
-  pub last_refused : (refusal : Refusal) → first_broken 0 (number_rules at (next - at) value) ≡ Err refusal → TakesLast first s at (Err refusal)
+  pub last_refused : (refusal : Refusal) → first_broken 0 (number_rules at (next - at) value) ≡ Err refusal → TakesLast first s at (Err refusal) next
   last_refused refusal e = last_stopped refusal (last_stops first s at refusal (sym (number_told at next value (digits_of s) exact n) ∙ e))
 
-  pub last_below : (count : ℕ) → first_broken 0 (number_rules at (next - at) value) ≡ Ok count → value < first → TakesLast first s at (Err (OfList (ListRange at)))
+  pub last_below : (count : ℕ) → first_broken 0 (number_rules at (next - at) value) ≡ Ok count → value < first → TakesLast first s at (Err (OfList (ListRange at))) next
   last_below count e falls =
       let good = sym (number_told at next value (digits_of s) exact n) ∙ e in
       let few = (number_good at _ _ count good).1 in
@@ -94,16 +85,17 @@ module _ (text : List ℕ) (at first value next : ℕ) (exact : value ≡ capped
         last_ends first s at count last_good (omega (arith, rises, last_same)) ∙ ap (λ (k : ℕ). first_broken 0 (end_rules k (up_to is_comma (behind_digits s)))) (sym n)
         ∙ ap (λ (t : List ℕ). first_broken 0 (end_rules next (up_to is_comma t))) (left_at text at next n)
 
-    pub last_unended : (refusal : Refusal) → first_broken 0 (end_rules next (up_to is_comma (drop next text))) ≡ Err refusal → TakesLast first s at (Err refusal)
+    pub last_unended : (refusal : Refusal) → first_broken 0 (end_rules next (up_to is_comma (drop next text))) ≡ Err refusal → TakesLast first s at (Err refusal) next
     last_unended refusal here = last_stopped refusal (last_whole ∙ here)
 
-    pub last_taken : (c : ℕ) → first_broken 0 (end_rules next (up_to is_comma (drop next text))) ≡ Ok c → TakesLast first s at (Ok (record { first = first; last = value; next = next }))
+    pub last_taken : (c : ℕ) → first_broken 0 (end_rules next (up_to is_comma (drop next text))) ≡ Ok c → TakesLast first s at (Ok (record { first = first; last = value })) next
     last_taken c here =
         let none = end_reached next (up_to is_comma (drop next text)) c here in
         let size = item_length s ∙ ap (λ (t : List ℕ). length (digits_of s) + length (up_to is_comma t)) (left_at text at next n) in
         let ends : next ≡ at + length (up_to is_comma s) = omega (arith, n, size, none) in
         record {
-          answered = ap Ok (same_item refl last_same ends) ∙ sym (given_done held_last _ (last_whole ∙ here));
+          answered = ap Ok (same_item refl last_same) ∙ sym (given_done held_last _ (last_whole ∙ here));
+          next_at = λ _ _. ends;
           right = λ _ _. record { listed = last_few; rises = omega (arith, rises, last_same) };
         }
 
@@ -116,10 +108,10 @@ module _ (text : List ℕ) (at value next : ℕ) (exact : value ≡ capped (valu
   pub dash_told : (dashed : Bool) → eqb (get_or text next 0) dash ≡ dashed → is_dashed t ≡ dashed
   dash_told dashed e = ap (λ (left : List ℕ). eqb (get_or left 0 0) dash) (left_at text at next n) ∙ ap (λ (b : ℕ). eqb b dash) (get_or-drop next text 0 0 ∙ ap (λ (k : ℕ). get_or text k 0) (add-zero next)) ∙ e
 
-  item_stopped : (refusal : Refusal) → first_broken 0 (item_rules at (up_to is_comma t)) ≡ Err refusal → TakesItem t at (Err refusal)
-  item_stopped refusal e = record { answered = sym (given_refused (held_item (item_of (up_to is_comma t)) (at + length (up_to is_comma t))) _ e); right = λ taken done. no_item done }
+  item_stopped : (refusal : Refusal) → first_broken 0 (item_rules at (up_to is_comma t)) ≡ Err refusal → TakesItem t at (Err refusal) next
+  item_stopped refusal e = record { answered = sym (given_refused (held_item (item_of (up_to is_comma t))) _ e); next_at = λ taken done. no_item done; right = λ taken done. no_item done }
 
-  pub item_refused : (refusal : Refusal) → first_broken 0 (number_rules at (next - at) value) ≡ Err refusal → TakesItem t at (Err refusal)
+  pub item_refused : (refusal : Refusal) → first_broken 0 (number_rules at (next - at) value) ≡ Err refusal → TakesItem t at (Err refusal) next
   item_refused refusal e = item_stopped refusal (item_stops t at refusal (sym (number_told at next value (digits_of t) exact n) ∙ e))
 
   module _ (count : ℕ) (e : first_broken 0 (number_rules at (next - at) value) ≡ Ok count) (alone : is_dashed t ≡ false) where
@@ -134,25 +126,26 @@ module _ (text : List ℕ) (at value next : ℕ) (exact : value ≡ capped (valu
         item_ends t at count alone_good alone ∙ ap (λ (k : ℕ). first_broken 0 (end_rules k (up_to is_comma (behind_digits t)))) (sym n)
         ∙ ap (λ (u : List ℕ). first_broken 0 (end_rules next (up_to is_comma u))) (left_at text at next n)
 
-    pub alone_unended : (refusal : Refusal) → first_broken 0 (end_rules next (up_to is_comma (drop next text))) ≡ Err refusal → TakesItem t at (Err refusal)
+    pub alone_unended : (refusal : Refusal) → first_broken 0 (end_rules next (up_to is_comma (drop next text))) ≡ Err refusal → TakesItem t at (Err refusal) next
     alone_unended refusal here = item_stopped refusal (alone_whole ∙ here)
 
-    pub alone_taken : (c : ℕ) → first_broken 0 (end_rules next (up_to is_comma (drop next text))) ≡ Ok c → TakesItem t at (Ok (record { first = value; last = value; next = next }))
+    pub alone_taken : (c : ℕ) → first_broken 0 (end_rules next (up_to is_comma (drop next text))) ≡ Ok c → TakesItem t at (Ok (record { first = value; last = value })) next
     alone_taken c here =
         let same = value_exact value (digits_of t) exact alone_few in
         let item = item_alone t at alone in
         let none = end_reached next (up_to is_comma (drop next text)) c here in
         let size = item_length t ∙ ap (λ (u : List ℕ). length (digits_of t) + length (up_to is_comma u)) (left_at text at next n) in
         let ends : next ≡ at + length (up_to is_comma t) = omega (arith, n, size, none) in
-        subst (λ (i : Item). HoldsItem i (at + length (up_to is_comma t)) (first_broken 0 (item_rules at (up_to is_comma t))) (Ok (record { first = value; last = value; next = next }))) (sym item)
+        subst (λ (i : Item). HoldsItem i (at + length (up_to is_comma t)) (first_broken 0 (item_rules at (up_to is_comma t))) (Ok (record { first = value; last = value })) next) (sym item)
         (record {
-          answered = ap Ok (same_item same same ends) ∙ sym (given_done (held_item (record { first = value_of (digits_of t); last = value_of (digits_of t) }) (at + length (up_to is_comma t))) _ (alone_whole ∙ here));
+          answered = ap Ok (same_item same same) ∙ sym (given_done (held_item (record { first = value_of (digits_of t); last = value_of (digits_of t) })) _ (alone_whole ∙ here));
+          next_at = λ _ _. ends;
           right = λ _ _. record { listed = alone_few; rises = omega arith };
         })
 
-  pub range_taken : (count : ℕ) (taken : Result ItemTaken Refusal) → first_broken 0 (number_rules at (next - at) value) ≡ Ok count → is_dashed t ≡ true
-      → TakesLast value (drop (next + 1) text) (next + 1) taken → TakesItem t at taken
-  range_taken count taken e dashed last =
+  pub range_taken : (count : ℕ) (taken : Result ItemTaken Refusal) (after : ℕ) → first_broken 0 (number_rules at (next - at) value) ≡ Ok count → is_dashed t ≡ true
+      → TakesLast value (drop (next + 1) text) (next + 1) taken after → TakesItem t at taken after
+  range_taken count taken after e dashed last =
       let good = sym (number_told at next value (digits_of t) exact n) ∙ e in
       let few = (number_good at _ _ count good).1 in
       let same = value_exact value (digits_of t) exact few in
@@ -170,6 +163,6 @@ module _ (text : List ℕ) (at value next : ℕ) (exact : value ≡ capped (valu
       let size = item_length t ∙ ap (λ (u : List ℕ). length (digits_of t) + length u) (behind-dash (behind_digits t) dashed) in
       let rest = ap (λ (u : List ℕ). length (up_to is_comma u)) behind in
       let ends : next + 1 + length (up_to is_comma (drop (next + 1) text)) ≡ at + length (up_to is_comma t) = omega (arith, n, size, rest) in
-      subst (λ (i : Item). HoldsItem i (at + length (up_to is_comma t)) (first_broken 0 (item_rules at (up_to is_comma t))) taken) (sym item)
-      (subst (λ (k : ℕ). HoldsItem (record { first = value; last = value_of (digits_of (drop (next + 1) text)) }) k (first_broken 0 (item_rules at (up_to is_comma t))) taken) ends
-      (subst (λ (answer : Answer). HoldsItem (record { first = value; last = value_of (digits_of (drop (next + 1) text)) }) (next + 1 + length (up_to is_comma (drop (next + 1) text))) answer taken) (sym whole) last))
+      subst (λ (i : Item). HoldsItem i (at + length (up_to is_comma t)) (first_broken 0 (item_rules at (up_to is_comma t))) taken after) (sym item)
+      (subst (λ (k : ℕ). HoldsItem (record { first = value; last = value_of (digits_of (drop (next + 1) text)) }) k (first_broken 0 (item_rules at (up_to is_comma t))) taken after) ends
+      (subst (λ (answer : Answer). HoldsItem (record { first = value; last = value_of (digits_of (drop (next + 1) text)) }) (next + 1 + length (up_to is_comma (drop (next + 1) text))) answer taken after) (sym whole) last))

@@ -10,7 +10,7 @@ ghost use Rattle.list.specs.Taken.{TakesLast, TakesItem, all_answer, all_set};
 
 use model::{ListCause, Refusal};
 use sets::{span, union};
-use typed::take_digits;
+use typed::Reader;
 
 // The longest text that is read as a list.
 pub const MOST_TEXT: usize = 1_024;
@@ -25,19 +25,18 @@ pub struct ListReading {
     pub set: u64,
 }
 
-// An item that is no refusal: its numbers, and where it ends.
+// An item that is no refusal: its numbers.
 #[derive(Clone, Copy, Debug, PartialEq, Eq)]
 pub struct ItemTaken {
     pub first: u32,
     pub last: u32,
-    pub next: usize,
 }
 
-// Whether a dash stands at a place.
-fn dash_at(text: &[u8], at: usize) -> bool
-    ensures { result ≡ eqb (get_or text.now at 0) dash }
+// Whether a dash stands where the reader does.
+fn is_at_dash(reader: &Reader) -> bool
+    ensures { result ≡ eqb (get_or reader.now.text.now reader.now.at 0) dash }
 {
-    match text.get(at) {
+    match reader.text.get(reader.at) {
         Some(byte) => *byte == b'-',
         None => false,
     }
@@ -57,57 +56,51 @@ fn judge_number(at: usize, digits: usize, value: u32) -> Result<(), Refusal>
     Ok(())
 }
 
-// An item's end: 60 where neither a comma nor the text's end is at the place.
-fn judge_end(text: &[u8], at: usize) -> Result<(), Refusal>
-    requires inside { at ≤ length text.now }
-    requires short { length text.now ≤ most_list_text }
-    ensures { result ≡ given tt (first_broken 0 (end_rules at (up_to is_comma (drop at text.now)))) }
+// An item's end: 60 where the reader stands neither at a comma nor at the text's end.
+fn judge_end(reader: &Reader) -> Result<(), Refusal>
+    requires { length reader.now.text.now ≤ most_list_text }
+    ensures { result ≡ given tt (first_broken 0 (end_rules reader.now.at (up_to is_comma (drop reader.now.at reader.now.text.now)))) }
 {
-    let Some(byte) = text.get(at) else {
+    let Some(byte) = reader.text.get(reader.at) else {
         return Ok(());
     };
     if *byte == b',' {
         return Ok(());
     }
-    Err(Refusal::OfList(ListCause::ListShape(at as u16)))
+    Err(Refusal::OfList(ListCause::ListShape(reader.at as u16)))
 }
 
 // The second number of a range, and the item's end: 60, 61, and 62 where it is below the first.
-fn take_last(text: &[u8], at: usize, first: u32) -> Result<ItemTaken, Refusal>
-    requires inside { at ≤ length text.now }
-    requires short { length text.now ≤ most_list_text }
-    ensures { TakesLast first (drop at text.now) at result }
+fn take_last(reader: &mut Reader, first: u32) -> Result<ItemTaken, Refusal>
+    requires { length reader.old.text.now ≤ most_list_text }
+    ensures item { TakesLast first (drop reader.old.at reader.old.text.now) reader.old.at result reader.new.at }
+    ensures text { reader.new.text ≡ reader.old.text }
 {
-    let digits = take_digits(text, at);
-    let last = digits.value;
-    let next = digits.next;
-    judge_number(at, next - at, last)?;
+    let from = reader.at;
+    let last = reader.take_digits();
+    judge_number(from, reader.at - from, last)?;
     if last < first {
-        return Err(Refusal::OfList(ListCause::ListRange(at as u16)));
+        return Err(Refusal::OfList(ListCause::ListRange(from as u16)));
     }
-    judge_end(text, next)?;
-    Ok(ItemTaken { first, last, next })
+    judge_end(reader)?;
+    Ok(ItemTaken { first, last })
 }
 
-// The item at a place: a number alone, or a range.
-fn take_item(text: &[u8], at: usize) -> Result<ItemTaken, Refusal>
-    requires inside { at ≤ length text.now }
-    requires short { length text.now ≤ most_list_text }
-    ensures { TakesItem (drop at text.now) at result }
+// The item at which the reader stands: a number alone, or a range.
+fn take_item(reader: &mut Reader) -> Result<ItemTaken, Refusal>
+    requires { length reader.old.text.now ≤ most_list_text }
+    ensures item { TakesItem (drop reader.old.at reader.old.text.now) reader.old.at result reader.new.at }
+    ensures text { reader.new.text ≡ reader.old.text }
 {
-    let digits = take_digits(text, at);
-    let first = digits.value;
-    let next = digits.next;
-    judge_number(at, next - at, first)?;
-    if dash_at(text, next) {
-        return take_last(text, next + 1, first);
+    let from = reader.at;
+    let first = reader.take_digits();
+    judge_number(from, reader.at - from, first)?;
+    if is_at_dash(reader) {
+        reader.skip();
+        return take_last(reader, first);
     }
-    judge_end(text, next)?;
-    Ok(ItemTaken {
-        first,
-        last: first,
-        next,
-    })
+    judge_end(reader)?;
+    Ok(ItemTaken { first, last: first })
 }
 
 // The set of a text's items, one behind each comma: each step is an item long, so no range counts it.
@@ -116,14 +109,16 @@ fn take_items(text: &[u8]) -> Result<u64, Refusal>
     ensures { result ≡ given (all_set text.now) (all_answer text.now) }
 {
     let mut set: u64 = 0;
-    let mut at: usize = 0;
-    while at <= text.len() {
-        let item = take_item(text, at)?;
+    let mut reader = Reader::new(text);
+    loop {
+        let item = take_item(&mut reader)?;
         let processors = span(item.first, item.last + 1 - item.first);
         set = union(set, processors);
-        at = item.next + 1;
+        if reader.at == text.len() {
+            return Ok(set);
+        }
+        reader.skip();
     }
-    Ok(set)
 }
 
 // The set of a text: 65, then item by item 60, 61 and 62; the empty text is the empty set.

@@ -5,6 +5,7 @@ use model::Order;
 use std::env::{Env, FillError};
 use std::io;
 use std::io::Read;
+use typed::Reader;
 
 // One byte more than the longest text that is taken.
 const MOST_READ: usize = 65_536;
@@ -54,9 +55,10 @@ fn lacks_argument(rt: &impl Env, number: usize) -> bool {
 fn main(rt: HostRuntime) -> io::Result<()> {
     let mut argument = [0u8; MOST_ARGUMENT];
     let size = rt.arg(1, &mut argument).unwrap_or(0);
-    let digits = typed::take_digits(&argument[..size], 0);
-    if lacks_argument(&rt, 2) && size > 0 && digits.next == size {
-        plan_input(&rt, &mut rt.stdin(), digits.value)
+    let mut reader = Reader::new(&argument[..size]);
+    let processors = reader.take_digits();
+    if lacks_argument(&rt, 2) && size > 0 && reader.at == size {
+        plan_input(&rt, &mut rt.stdin(), processors)
     } else {
         show_usage(&rt)
     }

@@ -3,17 +3,16 @@ use Rattle.std.specs.Prelude.{Err, Option, Some, None, is_some}
 use mathlib.Core.Path.{◌≡◌, refl, sym, ap, ◌∙◌}
 use mathlib.Core.Bool.{Bool, true, false}
 use mathlib.Core.List.{List}
-use Prim.Native.Nat.{ℕ, suc, ◌+◌, ◌-◌, ◌≤◌, ◌<◌}
+use Prim.Native.Nat.{ℕ, suc, ◌+◌, ◌-◌, ◌≤◌}
 use native.Mathlib.Omega.{arith}
 use native.Mathlib.Decide.{dec_le}
 use native.Mathlib.Numerals.{add-one}
 use lib.Dec.{leb, ltb}
 use mir.Val.{bool_byte}
-use lib.ListN.{length, drop, length-drop}
+use lib.ListN.{length, drop}
 use lib.Seq.{drop-drop}
-use borrow.Author.Tests.{le-leb, lt-leb, lt-ltb, le-ltb, ltb-true}
+use borrow.Author.Tests.{le-leb, lt-leb, lt-ltb, le-ltb}
 use Rattle.laws.specs.Sums.{only}
-use Rattle.laws.proofs.Choice.{both}
 use Rattle.model.specs.declared.order.Task.{Task}
 use Rattle.model.specs.declared.answer.Refusal.TheVariants.{OfText}
 use Rattle.model.specs.declared.answer.TextCause.TheVariants.{LineShape, LineNumber}
@@ -22,22 +21,20 @@ use Rattle.model.proofs.Rules.{AllPass}
 use Rattle.form.specs.Bytes.{is_line_feed}
 use Rattle.form.specs.Parts.{count, up_to, behind, behind_all}
 use Rattle.form.specs.Numbers.{most_typed, capped}
-use Rattle.form.specs.Lines.{is_line, line_task, numbers_fit}
+use Rattle.form.specs.Lines.{line_task, numbers_fit}
 use Rattle.form.specs.Text.{typed_line, finished_lines, is_unfinished, line_count, typed_task}
-use Rattle.form.proofs.Parts.{count-behind_all, behind_all_more, up_to_ends}
+use Rattle.form.proofs.Parts.{count-behind_all, behind_all_more}
 use Rattle.form.proofs.Lines.{fit_true}
-use Rattle.typed_line.specs.declared.LineTaken.{LineTaken}
 use Rattle.typed_line.specs.Taken.{first_line, is_finished, capped_task, TakesLine}
 use Rattle.text.specs.Read.{shaped, typed_fits, line_rules}
 
 -- a place where i lines have ended
-pub record LineBegins (text : List ℕ) (i at : ℕ) : Type 0 where
-  pub inside : at ≤ length text
-  pub rest : drop at text ≡ behind_all is_line_feed i text
+abbrev pub LineBegins : List ℕ → (i at : ℕ) → Type 0
+LineBegins text i at = drop at text ≡ behind_all is_line_feed i text
 
 pub first_begins : (text : List ℕ) → LineBegins text 0 0
 unfolding behind_all
-first_begins text = record { inside = omega arith; rest = refl }
+first_begins text = refl
 
 -- what is over stays over
 capped_fits : (value : ℕ) → leb (capped value) most_typed ≡ leb value most_typed
@@ -62,13 +59,13 @@ capped_exact t e =
     rw (exact t.width f.width, exact t.period f.period, exact t.deadline f.deadline, exact t.run f.run) in
     same
 
-module _ (text : List ℕ) (i at : ℕ) (begins : LineBegins text i at) (found : Option LineTaken) (taken : TakesLine (drop at text) at found) where
+module _ (text : List ℕ) (i at : ℕ) (begins : LineBegins text i at) (found : Option Task) (next : ℕ) (taken : TakesLine (drop at text) at found next) where
   line_is : first_line (drop at text) ≡ typed_line text i
   unfolding first_line typed_line
-  line_is = ap (up_to is_line_feed) begins.rest
+  line_is = ap (up_to is_line_feed) begins
 
   left : count is_line_feed (drop at text) ≡ finished_lines text - i
-  left = ap (count is_line_feed) begins.rest ∙ count-behind_all is_line_feed i text
+  left = ap (count is_line_feed) begins ∙ count-behind_all is_line_feed i text
 
   finished_is : is_finished (drop at text) ≡ ltb i (finished_lines text)
   unfolding is_finished
@@ -86,33 +83,28 @@ module _ (text : List ℕ) (i at : ℕ) (begins : LineBegins text i at) (found :
   pub unshaped : found ≡ None → (shaped text i).test ≡ false
   unshaped none = sym shaped_told ∙ ap is_some none
 
-  module _ (line : LineTaken) (good : found ≡ Some line) where
+  module _ (task : Task) (good : found ≡ Some task) where
     pub shape_told : (shaped text i).test ≡ true
     shape_told = sym shaped_told ∙ ap is_some good
 
-    task_told : line.task ≡ capped_task (typed_task text i)
-    task_told = taken.typed line good ∙ ap (λ (l : List ℕ). capped_task (line_task l)) line_is
+    task_told : task ≡ capped_task (typed_task text i)
+    task_told = taken.typed task good ∙ ap (λ (l : List ℕ). capped_task (line_task l)) line_is
 
     -- 51 of line i
-    pub fits_told : numbers_fit line.task ≡ (typed_fits text i).test
+    pub fits_told : numbers_fit task ≡ (typed_fits text i).test
     unfolding typed_fits
     fits_told = ap numbers_fit task_told ∙ fits_capped (typed_task text i)
 
-    pub task_exact : (typed_fits text i).test ≡ true → line.task ≡ typed_task text i
+    pub task_exact : (typed_fits text i).test ≡ true → task ≡ typed_task text i
     unfolding typed_fits
     task_exact fit = task_told ∙ capped_exact (typed_task text i) fit
 
     -- the next line begins behind it
-    pub next_begins : LineBegins text (i + 1) line.next
-    unfolding first_line is_finished
+    pub next_begins : LineBegins text (i + 1) next
+    unfolding first_line
     next_begins =
-        let feeds : 0 < count is_line_feed (drop at text) = ltb-true 0 (count is_line_feed (drop at text)) (both _ (is_line (first_line (drop at text))) (sym taken.told ∙ ap is_some good)).0 in
-        record {
-          inside = omega (arith, taken.next_at line good, up_to_ends is_line_feed (drop at text) feeds, length-drop at text);
-          rest =
-              ap (λ (n : ℕ). drop n text) (taken.next_at line good) ∙ sym (drop-drop (suc (length (first_line (drop at text)))) at text)
-              ∙ ap (behind is_line_feed) begins.rest ∙ sym (behind_all_more is_line_feed i text) ∙ ap (λ (n : ℕ). behind_all is_line_feed n text) (sym (add-one i));
-        }
+        ap (λ (n : ℕ). drop n text) (taken.next_at task good) ∙ sym (drop-drop (suc (length (first_line (drop at text)))) at text)
+        ∙ ap (behind is_line_feed) begins ∙ sym (behind_all_more is_line_feed i text) ∙ ap (λ (n : ℕ). behind_all is_line_feed n text) (sym (add-one i))
 
 -- 50 and 51 of line i in turn
 module _ (text : List ℕ) (i : ℕ) where

@@ -9,7 +9,7 @@ ghost use Rattle.text.specs.Read.{ReadsText};
 ghost use Rattle.text.specs.Taken.{typed_table, lines_answer};
 
 use model::{Order, Refusal, Task, TextCause};
-use typed::is_line_feed;
+use typed::{Reader, is_line_feed};
 use typed_line::{numbers_fit, take_line};
 
 fn finished_lines(text: &[u8]) -> usize
@@ -41,16 +41,15 @@ fn take_lines(text: &[u8], lines: usize) -> Result<[Task; Order::MOST_TASKS], Re
     ensures { result ≡ given (typed_table text.now lines) (lines_answer text.now lines) }
 {
     let mut table = [Task::zero(); Order::MOST_TASKS];
-    let mut at: usize = 0;
+    let mut reader = Reader::new(text);
     for i in 0..lines {
-        let Some(line) = take_line(text, at) else {
+        let Some(task) = take_line(&mut reader) else {
             return Err(Refusal::OfText(TextCause::LineShape(i as u16)));
         };
-        if !numbers_fit(line.task) {
+        if !numbers_fit(task) {
             return Err(Refusal::OfText(TextCause::LineNumber(i as u16)));
         }
-        table[i] = line.task;
-        at = line.next;
+        table[i] = task;
     }
     Ok(table)
 }

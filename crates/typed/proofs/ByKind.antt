@@ -7,12 +7,15 @@ use Prim.Native.Nat.{ℕ}
 use borrow.Author.Tests.{eqb-true}
 use Rattle.laws.specs.Choice.{pick}
 use Rattle.laws.proofs.Choice.{within_true}
-use Rattle.form.specs.Bytes.{semicolon, line_feed, is_digit, is_mark, is_semicolon, is_line_feed}
+use Rattle.form.specs.Bytes.{semicolon, is_digit, is_mark, is_semicolon, is_line_feed}
 use Rattle.form.proofs.Bytes.{digit_no_mark, digit_no_semicolon, digit_no_line_feed, mark_true, mark_no_semicolon, mark_no_line_feed}
 use Rattle.typed.specs.declared.Kind.{Kind}
 use Rattle.typed.specs.contracts.Kind.{the_type}
 use Rattle.typed.specs.declared.Kind.TheVariants.{Digit, Mark, Semicolon, LineFeed, Other}
-use Rattle.typed.specs.Kinds.{kind_of}
+use Rattle.typed.specs.declared.FieldEnd.{FieldEnd}
+use Rattle.typed.specs.declared.FieldEnd.TheVariants as field
+use Rattle.typed.specs.Kinds.{kind_of, end_kind}
+use Rattle.typed.specs.Taken.{end_byte}
 
 -- whether a kind is this one
 abbrev pub is_kind : Kind → Kind → Bool
@@ -37,13 +40,10 @@ kind_tells b = go (is_digit b) (is_mark b) (is_semicolon b) (is_line_feed b) ref
     go false false false true d-is m-is s-is l-is = record { digit_is = d-is; mark_is = m-is; semicolon_is = s-is; feed_is = l-is }
     go false false false false d-is m-is s-is l-is = record { digit_is = d-is; mark_is = m-is; semicolon_is = s-is; feed_is = l-is }
 
--- the kind of the byte that ends a field
-abbrev pub end_kind : (last : Bool) → Kind
-end_kind last = pick last LineFeed Semicolon
-
-pub end_told : (b : ℕ) (last : Bool) → is_kind (kind_of b) (end_kind last) ≡ eqb b (pick last line_feed semicolon)
-end_told b true = sym (kind_tells b).feed_is
-end_told b false = sym (kind_tells b).semicolon_is
+-- a byte of the kind that ends a field is the byte that ends it
+pub end_told : (b : ℕ) (end : FieldEnd) → is_kind (kind_of b) (end_kind end) ≡ eqb b (end_byte end)
+end_told b field.Semicolon = sym (kind_tells b).semicolon_is
+end_told b field.LineFeed = sym (kind_tells b).feed_is
 
 -- and the other way: the kind of a byte by its test
 pub digit_kind : (b : ℕ) → is_digit b ≡ true → kind_of b ≡ Digit

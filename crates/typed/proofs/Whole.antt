@@ -8,12 +8,12 @@ use native.Mathlib.Nat.{mul_comm}
 use native.Mathlib.Decide.{dec_le}
 use lib.Dec.{eqb, ltb}
 use borrow.Author.Tests.{le-ltb}
-use lib.ListN.{length, get_or, drop, length-append, length-drop, get_or-eq_default}
+use lib.ListN.{length, get_or, drop, length-append, get_or-eq_default}
 use lib.Seq.{get_or-drop, get_or-append-add, drop-cons, drop-drop}
 use Rattle.laws.specs.Choice.{pick, within}
 use Rattle.laws.proofs.Choice.{pick_turned, pick-never}
 use Rattle.laws.proofs.Every.{clash}
-use Rattle.form.specs.Bytes.{semicolon, line_feed, is_mark, is_end}
+use Rattle.form.specs.Bytes.{is_mark, is_end}
 use Rattle.form.specs.Parts.{count}
 use Rattle.form.specs.Numbers.{digits_of, value_of, capped}
 use Rattle.form.specs.Times.{is_time, ticks_of}
@@ -21,9 +21,8 @@ use Rattle.form.proofs.Bytes.{mark_true}
 use Rattle.form.proofs.Parts.{count-append, none_cons}
 use Rattle.form.proofs.Times.{ticks_whole, ticks_decimal}
 use Rattle.std.specs.Prelude.{Option, Some, None, is_some}
-use Rattle.typed.specs.declared.DigitsTaken.{DigitsTaken}
-use Rattle.typed.specs.declared.FieldTaken.{FieldTaken}
-use Rattle.typed.specs.Taken.{TakesDigits, decimals_good, decimals_length, decimals_value, TakesDecimals, field_of, ends_at, TakesFormField}
+use Rattle.typed.specs.declared.FieldEnd.{FieldEnd}
+use Rattle.typed.specs.Taken.{TakesDigits, decimals_good, decimals_length, decimals_value, TakesDecimals, field_of, end_byte, ends_at, TakesFormField}
 use Rattle.form.proofs.Digits.{digits_are, digits_cut, digits_over}
 use Rattle.typed.proofs.Digits.{capped_scaled}
 use Rattle.typed.proofs.Found.{of_some, of_none}
@@ -106,78 +105,76 @@ module _ (s : List ℕ) where
       go true h = marked h
       go false h = unmarked h
 
-module _ (text : List ℕ) (at : ℕ) (last : Bool) (digits : DigitsTaken) (taken : TakesDigits (drop at text) at digits)
-    (found : Option FieldTaken) (decimals_taken : TakesDecimals (drop digits.next text) digits.next found) where
+module _ (text : List ℕ) (at : ℕ) (end : FieldEnd) (digits behind : ℕ) (taken : TakesDigits (drop at text) at digits behind) where
   abbrev typed : List ℕ
   typed = drop at text
 
   abbrev time : TimeFront typed
   time = time_front typed
 
-  behind_is : drop digits.next text ≡ behind_whole typed
+  behind_is : drop behind text ≡ behind_whole typed
   behind_is = ap (λ (n : ℕ). drop n text) taken.1 ∙ sym (drop-drop (length (digits_of typed)) at text)
 
-  -- the front is a time where its parts are good
-  good_is : pick (is_some found) (ltb at digits.next) false ≡ is_time time.front
-  good_is =
-      ap (λ (x : Bool). pick x (ltb at digits.next) false) (decimals_taken.told ∙ ap decimals_good behind_is)
-      ∙ ap (λ (x : Bool). pick (decimals_good (behind_whole typed)) x false) (ap (ltb at) taken.1 ∙ some_taken at (length (digits_of typed))) ∙ sym time.good
-
-  field_at : pick (ends_at last typed (length (field_of typed))) (is_time (field_of typed)) false ≡ pick (ends_at last time.rest 0) (is_time time.front) false
+  field_at : pick (ends_at end typed (length (field_of typed))) (is_time (field_of typed)) false ≡ pick (ends_at end time.rest 0) (is_time time.front) false
   field_at =
-      subst (λ (t : List ℕ). pick (ends_at last t (length (field_of t))) (is_time (field_of t)) false ≡ pick (ends_at last time.rest 0) (is_time time.front) false) (sym time.cut)
-      (field_told is_time last time.front time.no_end time.rest (λ more e. time.stops more))
+      subst (λ (t : List ℕ). pick (ends_at end t (length (field_of t))) (is_time (field_of t)) false ≡ pick (ends_at end time.rest 0) (is_time time.front) false) (sym time.cut)
+      (field_told is_time end time.front time.no_end time.rest (λ more e. time.stops more))
 
   -- no time is taken where its parts are none
-  not_taken : pick (is_some found) (ltb at digits.next) false ≡ false → TakesFormField is_time ticks_of last typed at None
-  not_taken bad =
+  no_front : (next : ℕ) → is_time time.front ≡ false → TakesFormField is_time ticks_of end typed at None next
+  no_front next bad =
       record {
-        told = sym (field_at ∙ ap (λ (x : Bool). pick (ends_at last time.rest 0) x false) (sym good_is ∙ bad) ∙ pick-never (ends_at last time.rest 0));
+        told = sym (field_at ∙ ap (λ (x : Bool). pick (ends_at end time.rest 0) x false) bad ∙ pick-never (ends_at end time.rest 0));
         valued = of_none _;
         next_at = of_none _;
       }
 
-  pub no_decimals : found ≡ None → TakesFormField is_time ticks_of last typed at None
-  no_decimals none = not_taken (rw none)
+  pub no_whole : behind ≡ at → TakesFormField is_time ticks_of end typed at None behind
+  no_whole none =
+      let digitless : ltb 0 (length (digits_of typed)) ≡ false = le-ltb 0 (length (digits_of typed)) (omega (arith, none, taken.1)) in
+      no_front behind (time.good ∙ ap (λ (x : Bool). pick (decimals_good (behind_whole typed)) x false) digitless ∙ pick-never (decimals_good (behind_whole typed)))
 
-  pub no_whole : at ≡ digits.next → TakesFormField is_time ticks_of last typed at None
-  no_whole none = not_taken (ap (λ (x : Bool). pick (is_some found) x false) (le-ltb at digits.next (omega (arith, none))) ∙ pick-never (is_some found))
+  module _ (found : Option ℕ) (next : ℕ) (decimals_taken : TakesDecimals (drop behind text) behind found next) where
+    -- the front is a time where its parts are good
+    good_is : pick (is_some found) (ltb at behind) false ≡ is_time time.front
+    good_is =
+        ap (λ (x : Bool). pick x (ltb at behind) false) (decimals_taken.told ∙ ap decimals_good behind_is)
+        ∙ ap (λ (x : Bool). pick (decimals_good (behind_whole typed)) x false) (ap (ltb at) taken.1 ∙ some_taken at (length (digits_of typed))) ∙ sym time.good
 
-  module _ (decimal : FieldTaken) (is-found : found ≡ Some decimal) where
-    size_is : decimal.next ≡ at + length time.front
-    size_is = let e = decimals_taken.next_at decimal is-found ∙ ap (λ (r : List ℕ). digits.next + decimals_length r) behind_is in omega (arith, e, taken.1, time.size)
+    pub no_decimals : found ≡ None → TakesFormField is_time ticks_of end typed at None next
+    no_decimals none = no_front next (sym good_is ∙ rw none)
 
-    pub time_within : at ≤ length text → decimal.next ≤ length text
-    time_within inside = omega (arith, size_is, ap length time.cut, length-append time.front time.rest, length-drop at text)
+    module _ (decimal : ℕ) (is-found : found ≡ Some decimal) where
+      size_is : next ≡ at + length time.front
+      size_is = let e = decimals_taken.next_at decimal is-found ∙ ap (λ (r : List ℕ). behind + decimals_length r) behind_is in omega (arith, e, taken.1, time.size)
 
-    -- the byte behind the front
-    end_is : ends_at last text decimal.next ≡ ends_at last time.rest 0
-    end_is =
-        ap (λ (b : ℕ). eqb b (pick last line_feed semicolon))
-        (ap (λ (i : ℕ). get_or text i 0) size_is ∙ sym (get_or-drop at text (length time.front) 0) ∙ ap (λ (s : List ℕ). get_or s (length time.front) 0) time.cut
-        ∙ ap (λ (i : ℕ). get_or (time.front ++ time.rest) i 0) (omega arith) ∙ get_or-append-add time.front time.rest 0 0)
+      -- the byte behind the front
+      end_is : ends_at end text next ≡ ends_at end time.rest 0
+      end_is =
+          ap (λ (b : ℕ). eqb b (end_byte end))
+          (ap (λ (i : ℕ). get_or text i 0) size_is ∙ sym (get_or-drop at text (length time.front) 0) ∙ ap (λ (s : List ℕ). get_or s (length time.front) 0) time.cut
+          ∙ ap (λ (i : ℕ). get_or (time.front ++ time.rest) i 0) (omega arith) ∙ get_or-append-add time.front time.rest 0 0)
 
-    -- nor where its end is none
-    pub no_time_end : ends_at last text decimal.next ≡ false → TakesFormField is_time ticks_of last typed at None
-    no_time_end bad =
-        record { told = sym (field_at ∙ ap (λ (x : Bool). pick x (is_time time.front) false) (sym end_is ∙ bad)); valued = of_none _; next_at = of_none _ }
+      -- nor where its end is none
+      pub no_time_end : ends_at end text next ≡ false → TakesFormField is_time ticks_of end typed at None next
+      no_time_end bad =
+          record { told = sym (field_at ∙ ap (λ (x : Bool). pick x (is_time time.front) false) (sym end_is ∙ bad)); valued = of_none _; next_at = of_none _ }
 
-    -- a time is taken
-    pub time_taken : ends_at last text decimal.next ≡ true → (at ≡ digits.next → ⊥)
-        → TakesFormField is_time ticks_of last typed at (Some (record { value = capped (digits.value * 100 + decimal.value); next = decimal.next + 1 }))
-    time_taken ended some =
-        record {
-          told = sym (field_at ∙ ap (λ (x : Bool). pick x (is_time time.front) false) (sym end_is ∙ ended) ∙ sym good_is ∙ ap (λ (x : Option FieldTaken). pick (is_some x) (ltb at digits.next) false) is-found ∙ some_digits at digits.next (omega (arith, taken.1)) some);
-          valued = of_some (λ (taken : FieldTaken). taken.value ≡ capped (ticks_of (field_of typed))) _ (worth_is ∙ ap (λ (f : List ℕ). capped (ticks_of f)) (sym field));
-          next_at = of_some (λ (taken : FieldTaken). taken.next ≡ at + suc (length (field_of typed))) _ (let e = ap length field in omega (arith, size_is, e));
-        }
-      where
-        field : field_of typed ≡ time.front
-        field = ap field_of time.cut ∙ field_is is_time last time.front time.no_end time.rest (sym end_is ∙ ended)
+      -- a time is taken
+      pub time_taken : ends_at end text next ≡ true → (behind ≡ at → ⊥) → TakesFormField is_time ticks_of end typed at (Some (capped (digits * 100 + decimal))) (next + 1)
+      time_taken ended some =
+          record {
+            told = sym (field_at ∙ ap (λ (x : Bool). pick x (is_time time.front) false) (sym end_is ∙ ended) ∙ sym good_is ∙ ap (λ (x : Option ℕ). pick (is_some x) (ltb at behind) false) is-found ∙ some_digits at behind (omega (arith, taken.1)) some);
+            valued = of_some (λ (ticks : ℕ). ticks ≡ capped (ticks_of (field_of typed))) _ (worth_is ∙ ap (λ (f : List ℕ). capped (ticks_of f)) (sym field));
+            next_at = of_some (λ (ticks : ℕ). next + 1 ≡ at + suc (length (field_of typed))) _ (let e = ap length field in omega (arith, size_is, e));
+          }
+        where
+          field : field_of typed ≡ time.front
+          field = ap field_of time.cut ∙ field_is is_time end time.front time.no_end time.rest (sym end_is ∙ ended)
 
-        worth_is : capped (digits.value * 100 + decimal.value) ≡ capped (ticks_of time.front)
-        worth_is =
-            ap (λ (v : ℕ). capped (digits.value * 100 + v)) (decimals_taken.valued decimal is-found ∙ ap decimals_value behind_is)
-            ∙ ap (λ (v : ℕ). capped (v * 100 + decimals_value (behind_whole typed))) taken.0
-            ∙ capped_scaled (value_of (digits_of typed)) 100 (decimals_value (behind_whole typed)) (omega arith)
-            ∙ ap capped (ap (λ (v : ℕ). v + decimals_value (behind_whole typed)) (mul_comm (value_of (digits_of typed)) 100) ∙ sym time.ticks)
+          worth_is : capped (digits * 100 + decimal) ≡ capped (ticks_of time.front)
+          worth_is =
+              ap (λ (v : ℕ). capped (digits * 100 + v)) (decimals_taken.valued decimal is-found ∙ ap decimals_value behind_is)
+              ∙ ap (λ (v : ℕ). capped (v * 100 + decimals_value (behind_whole typed))) taken.0
+              ∙ capped_scaled (value_of (digits_of typed)) 100 (decimals_value (behind_whole typed)) (omega arith)
+              ∙ ap capped (ap (λ (v : ℕ). v + decimals_value (behind_whole typed)) (mul_comm (value_of (digits_of typed)) 100) ∙ sym time.ticks)

@@ -1,6 +1,6 @@
 -- A line is taken exactly where its four fields are, one after the other.
 use mathlib.Core.Path.{◌≡◌, refl, sym, ap, ◌∙◌}
-use mathlib.Core.Bool.{true, false}
+use mathlib.Core.Bool.{true}
 use mathlib.Core.List.{List, ◌∷◌, ◌++◌, append_assoc}
 use Prim.Native.Nat.{ℕ, suc, ◌+◌}
 use native.Mathlib.Omega.{arith}
@@ -16,6 +16,7 @@ use Rattle.form.proofs.Parts.{up_to_at, count_at, cut_byte}
 use Rattle.form.proofs.Numbers.{number_true, true_number}
 use Rattle.form.proofs.Times.{time_true, true_time, time_none}
 use Rattle.form.proofs.Lines.{line_true, true_line, line_task_lem, line_no_line_feed}
+use Rattle.typed.specs.declared.FieldEnd.TheVariants.{Semicolon, LineFeed}
 use Rattle.typed.specs.Taken.{field_of}
 use Rattle.typed.proofs.Told.{digit_no_end, mark_no_end, no_ends}
 use Rattle.typed_line.specs.Taken.{first_line, is_finished}
@@ -36,13 +37,13 @@ four_and_lem width period deadline run rest = rw (append_assoc width, append_ass
 
 module _ (s : List ℕ) where
   abbrev pub after_width : List ℕ
-  after_width = behind_field false is_number s
+  after_width = behind_field Semicolon is_number s
 
   abbrev pub after_period : List ℕ
-  after_period = behind_field false is_time after_width
+  after_period = behind_field Semicolon is_time after_width
 
   abbrev pub after_deadline : List ℕ
-  after_deadline = behind_field false is_time after_period
+  after_deadline = behind_field Semicolon is_time after_period
 
   abbrev four_line : List ℕ
   four_line = four_fields (field_of s) (field_of after_width) (field_of after_period) (field_of after_deadline)
@@ -51,24 +52,24 @@ module _ (s : List ℕ) where
   four_task = record { width = value_of (field_of s); period = ticks_of (field_of after_width); deadline = ticks_of (field_of after_period); run = ticks_of (field_of after_deadline) }
 
   -- all four are taken: they are the line, and its task
-  module _ (w : is_taken false is_number s ≡ true) (p : is_taken false is_time after_width ≡ true) (d : is_taken false is_time after_period ≡ true) (r : is_taken true is_time after_deadline ≡ true) where
-    abbrev width_is : FieldIs false is_number s
-    width_is = field_taken false is_number s w
+  module _ (w : is_taken Semicolon is_number s ≡ true) (p : is_taken Semicolon is_time after_width ≡ true) (d : is_taken Semicolon is_time after_period ≡ true) (r : is_taken LineFeed is_time after_deadline ≡ true) where
+    abbrev width_is : FieldIs Semicolon is_number s
+    width_is = field_taken Semicolon is_number s w
 
-    abbrev period_is : FieldIs false is_time after_width
-    period_is = field_taken false is_time after_width p
+    abbrev period_is : FieldIs Semicolon is_time after_width
+    period_is = field_taken Semicolon is_time after_width p
 
-    abbrev deadline_is : FieldIs false is_time after_period
-    deadline_is = field_taken false is_time after_period d
+    abbrev deadline_is : FieldIs Semicolon is_time after_period
+    deadline_is = field_taken Semicolon is_time after_period d
 
-    abbrev run_is : FieldIs true is_time after_deadline
-    run_is = field_taken true is_time after_deadline r
+    abbrev run_is : FieldIs LineFeed is_time after_deadline
+    run_is = field_taken LineFeed is_time after_deadline r
 
-    whole : s ≡ four_line ++ (line_feed ∷ behind_field true is_time after_deadline)
+    whole : s ≡ four_line ++ (line_feed ∷ behind_field LineFeed is_time after_deadline)
     whole =
         width_is.cut ∙ ap (λ (rest : List ℕ). field_of s ++ (semicolon ∷ rest)) (period_is.cut ∙ ap (λ (rest : List ℕ). field_of after_width ++ (semicolon ∷ rest)) (deadline_is.cut
         ∙ ap (λ (rest : List ℕ). field_of after_period ++ (semicolon ∷ rest)) run_is.cut))
-        ∙ four_and_lem (field_of s) (field_of after_width) (field_of after_period) (field_of after_deadline) (behind_field true is_time after_deadline)
+        ∙ four_and_lem (field_of s) (field_of after_width) (field_of after_period) (field_of after_deadline) (behind_field LineFeed is_time after_deadline)
 
     typed_line_lem : IsLine four_line four_task
     typed_line_lem =
@@ -86,13 +87,13 @@ module _ (s : List ℕ) where
 
     pub line_is : first_line s ≡ four_line
     unfolding first_line
-    line_is = ap (up_to is_line_feed) whole ∙ up_to_at is_line_feed four_line line_feed (behind_field true is_time after_deadline) (line_no_line_feed typed_line_lem) refl
+    line_is = ap (up_to is_line_feed) whole ∙ up_to_at is_line_feed four_line line_feed (behind_field LineFeed is_time after_deadline) (line_no_line_feed typed_line_lem) refl
 
     pub finished : is_finished s ≡ true
     unfolding is_finished
     finished =
-        let feeds : count is_line_feed s ≡ suc (count is_line_feed (behind_field true is_time after_deadline)) =
-        ap (count is_line_feed) whole ∙ count_at is_line_feed four_line line_feed (behind_field true is_time after_deadline) (line_no_line_feed typed_line_lem) refl in
+        let feeds : count is_line_feed s ≡ suc (count is_line_feed (behind_field LineFeed is_time after_deadline)) =
+        ap (count is_line_feed) whole ∙ count_at is_line_feed four_line line_feed (behind_field LineFeed is_time after_deadline) (line_no_line_feed typed_line_lem) refl in
         lt-ltb 0 (count is_line_feed s) (omega (arith, feeds))
 
     pub shaped_line : is_line (first_line s) ≡ true
@@ -132,22 +133,22 @@ module _ (s : List ℕ) where
     from_period = l.period_typed ++ (semicolon ∷ from_deadline)
 
     behind_width : after_width ≡ from_period
-    behind_width = ap (behind_field false is_number) pieces ∙ front_behind false is_number l.width_typed from_period width_no_ends
+    behind_width = ap (behind_field Semicolon is_number) pieces ∙ front_behind Semicolon is_number l.width_typed from_period width_no_ends
 
     behind_period : after_period ≡ from_deadline
-    behind_period = ap (behind_field false is_time) behind_width ∙ front_behind false is_time l.period_typed from_deadline (time_no_ends _ _ l.period)
+    behind_period = ap (behind_field Semicolon is_time) behind_width ∙ front_behind Semicolon is_time l.period_typed from_deadline (time_no_ends _ _ l.period)
 
     behind_deadline : after_deadline ≡ from_run
-    behind_deadline = ap (behind_field false is_time) behind_period ∙ front_behind false is_time l.deadline_typed from_run (time_no_ends _ _ l.deadline)
+    behind_deadline = ap (behind_field Semicolon is_time) behind_period ∙ front_behind Semicolon is_time l.deadline_typed from_run (time_no_ends _ _ l.deadline)
 
-    pub width_taken : is_taken false is_number s ≡ true
-    width_taken = ap (is_taken false is_number) pieces ∙ front_taken false is_number l.width_typed from_period width_no_ends (true_number _ _ l.width)
+    pub width_taken : is_taken Semicolon is_number s ≡ true
+    width_taken = ap (is_taken Semicolon is_number) pieces ∙ front_taken Semicolon is_number l.width_typed from_period width_no_ends (true_number _ _ l.width)
 
-    pub period_taken : is_taken false is_time after_width ≡ true
-    period_taken = ap (is_taken false is_time) behind_width ∙ front_taken false is_time l.period_typed from_deadline (time_no_ends _ _ l.period) (true_time _ _ l.period).0
+    pub period_taken : is_taken Semicolon is_time after_width ≡ true
+    period_taken = ap (is_taken Semicolon is_time) behind_width ∙ front_taken Semicolon is_time l.period_typed from_deadline (time_no_ends _ _ l.period) (true_time _ _ l.period).0
 
-    pub deadline_taken : is_taken false is_time after_period ≡ true
-    deadline_taken = ap (is_taken false is_time) behind_period ∙ front_taken false is_time l.deadline_typed from_run (time_no_ends _ _ l.deadline) (true_time _ _ l.deadline).0
+    pub deadline_taken : is_taken Semicolon is_time after_period ≡ true
+    deadline_taken = ap (is_taken Semicolon is_time) behind_period ∙ front_taken Semicolon is_time l.deadline_typed from_run (time_no_ends _ _ l.deadline) (true_time _ _ l.deadline).0
 
-    pub run_taken : is_taken true is_time after_deadline ≡ true
-    run_taken = ap (is_taken true is_time) behind_deadline ∙ front_taken true is_time l.run_typed rest (time_no_ends _ _ l.run) (true_time _ _ l.run).0
+    pub run_taken : is_taken LineFeed is_time after_deadline ≡ true
+    run_taken = ap (is_taken LineFeed is_time) behind_deadline ∙ front_taken LineFeed is_time l.run_typed rest (time_no_ends _ _ l.run) (true_time _ _ l.run).0

@@ -6,7 +6,6 @@ use Rattle.model.specs.declared.order.Task.{Task}
 use Rattle.form.specs.Bytes.{is_line_feed}
 use Rattle.form.specs.Parts.{count, up_to}
 use Rattle.form.specs.Numbers.{capped}
-use Rattle.typed_line.specs.declared.LineTaken.{LineTaken}
 use Rattle.form.specs.Lines.{is_line, line_task}
 
 -- the line that s begins with, and whether a line feed ends it
@@ -20,7 +19,7 @@ is_finished s = ltb 0 (count is_line_feed s)
 abbrev pub capped_task : Task → Task
 capped_task t = record { width = capped t.width; period = capped t.period; deadline = capped t.deadline; run = capped t.run }
 
-pub record TakesLine (s : List ℕ) (at : ℕ) (taken : Option LineTaken) : Type 0 where
+pub record TakesLine (s : List ℕ) (at : ℕ) (taken : Option Task) (next : ℕ) : Type 0 where
   pub told : is_some taken ≡ pick (is_finished s) (is_line (first_line s)) false
-  pub typed : ForSome taken (λ line. line.task ≡ capped_task (line_task (first_line s)))
-  pub next_at : ForSome taken (λ line. line.next ≡ at + suc (length (first_line s)))
+  pub typed : ForSome taken (λ task. task ≡ capped_task (line_task (first_line s)))
+  pub next_at : ForSome taken (λ task. next ≡ at + suc (length (first_line s)))

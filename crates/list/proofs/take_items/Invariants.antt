@@ -1,10 +1,11 @@
-use Prim.Native.Nat.{suc, ◌-◌}
+use mathlib.Core.Path.{◌≡◌}
+use Prim.Native.Nat.{◌-◌}
 use lib.ListN.{length}
 use Rattle.list.proofs.Items.{ItemsLeft}
 use Rattle.list.proofs.take_items.Given as goal
 
-abbrev pub invariant-loop-at : goal.invariant-loop-at
-invariant-loop-at l = ItemsLeft l.text l.at l.set
+abbrev pub invariant-loop-item : goal.invariant-loop-item
+invariant-loop-item l = ItemsLeft l.text l.reader.at l.set × (l.reader.text.now ≡ l.text)
 
-abbrev pub decreases-loop-at : goal.decreases-loop-at
-decreases-loop-at l = suc (length l.text) - l.at
+abbrev pub decreases-loop-item : goal.decreases-loop-item
+decreases-loop-item l = length l.text - l.reader.at

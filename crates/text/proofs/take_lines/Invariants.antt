@@ -9,4 +9,4 @@ use Rattle.text.proofs.Lines.{LineBegins}
 use Rattle.text.proofs.take_lines.Given as goal
 
 abbrev pub invariant-loop-i : goal.invariant-loop-i
-invariant-loop-i l = (l.i ≤ l.lines) × LineBegins l.text l.i l.at × AllPass (joined (line_rules l.text) l.i) × (l.table ≡ filled (typed_task l.text) zero_task most_tasks l.i)
+invariant-loop-i l = (l.i ≤ l.lines) × LineBegins l.text l.i l.reader.at × AllPass (joined (line_rules l.text) l.i) × (l.table ≡ filled (typed_task l.text) zero_task most_tasks l.i) × (l.reader.text.now ≡ l.text)
