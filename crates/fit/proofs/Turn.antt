@@ -33,6 +33,7 @@ use Rattle.fitting.specs.Steps.{put, open_next, refusing, told, living_in, accep
 use Rattle.fitting.proofs.Put.{one_waits, put_here, put_other, put_placed, put-unplaced, living_kept}
 use Rattle.fitting.proofs.Standing.{stands_accepted, stands_opened, alone_there}
 use Rattle.fitting.proofs.Turning.{widths, step-put, step_open, step_refuse, opening_new, opening_none}
+use Rattle.trial.specs.declared.Results.{Results}
 use Rattle.placing.specs.declared.Line.{Line}
 use Rattle.placing.specs.Known.{OpenUntil, Known, InLine, seated, Trying, Lowest}
 use Rattle.placing.proofs.Beside.{open_more}
@@ -46,10 +47,10 @@ module _ (o : Order) (table : Rows) (s : Placing) (line : Line) (t : Taking o ta
   placed = line.placed
 
   abbrev lasts : List ℕ
-  lasts = line.lasts
+  lasts = line.results.lasts
 
   abbrev worsts : List ℕ
-  worsts = line.worsts
+  worsts = line.results.worsts
 
   abbrev homes : Homes
   homes = s.homes
@@ -125,8 +126,12 @@ module _ (o : Order) (table : Rows) (s : Placing) (line : Line) (t : Taking o ta
       keys_then = ap (λ (xs : List ℕ). length xs) put_in ∙ length-overlaid (with_key key keys placed) keys (placed + 1) (omega (arith, t.lines.key_places, t.early, few_tasks)) ∙ t.lines.key_places
 
     -- the line with the task in its place, and what is known then
-    abbrev line_with : (key : ℕ) (lasts' worsts' : List ℕ) → Line
-    line_with key lasts' worsts' = record { keys = overlaid (with_key key keys placed) (placed + 1) keys; placed = placed + 1; lasts = lasts'; worsts = worsts' }
+    abbrev line_with : (key : ℕ) (results : Results ℕ) → Line
+    line_with key results = record { keys = overlaid (with_key key keys placed) (placed + 1) keys; placed = placed + 1; results = results }
+
+    -- a task alone responds in its own cost
+    abbrev lone_response : Results ℕ → Results ℕ
+    lone_response results = record { lasts = results.lasts; worsts = set results.worsts i (cost_at table i) }
 
     -- an open partition takes it
     pub seated_there : (k key : ℕ) (found : Option ℕ) (tried after : Line) (r : Result Placing Refusal) → Lowest table line i trying s.opened found tried → found ≡ Some k
@@ -136,12 +141,12 @@ module _ (o : Order) (table : Rows) (s : Placing) (line : Line) (t : Taking o ta
         let lowest : lowest_accepting o s i ≡ Some k = sym is.answer ∙ at in
         let first = subst (Firstly (accepts o homes i) s.opened) lowest (first_says (accepts o homes i) s.opened) in
         let few : k < unplaced = omega (arith, first.below, opened_few) in
-        let here : after ≡ line_with key tried.lasts tried.worsts =
-        put_in ∙ ap₂ (λ (ks : List ℕ) (n : ℕ). record { keys = overlaid (with_key key ks n) (n + 1) ks; placed = n + 1; lasts = tried.lasts; worsts = tried.worsts }) is.same_line.0 is.same_line.1 in
+        let here : after ≡ line_with key tried.results =
+        put_in ∙ ap₂ (λ (ks : List ℕ) (n : ℕ). record { keys = overlaid (with_key key ks n) (n + 1) ks; placed = n + 1; results = tried.results }) is.same_line.0 is.same_line.1 in
         subst (Taken o s line r) (sym here)
         (record {
           answer = e ∙ ap told (sym (step-put o s i turn k lowest));
-          lines = λ next_one done. (let same : put s i k ≡ next_one = cc (sym e ∙ done) in subst (λ (x : Placing). Lines o x (line_with key tried.lasts tried.worsts)) same
+          lines = λ next_one done. (let same : put s i k ≡ next_one = cc (sym e ∙ done) in subst (λ (x : Placing). Lines o x (line_with key tried.results)) same
               (record {
                 stands = stands_accepted o t.limits (widths o t.limits) placed s t.lines.stands t.early i next k first.below first.holds;
                 key_places = keys_then k key few key_is _ refl;
@@ -189,7 +194,7 @@ module _ (o : Order) (table : Rows) (s : Placing) (line : Line) (t : Taking o ta
             open_more o (living_in homes (home_at homes j)) (living_in homes'' (home_at homes'' j)) (λ x lx m. kept j l away was x lx ∙ m) j (get_or lasts j 0) (t.lines.known.unclosed j l was))
       ]
 
-      known_then : Known o homes'' lasts worsts'
+      known_then : Known o homes'' (record { lasts = lasts; worsts = worsts' })
       known_then =
           record {
             last_places = t.lines.known.last_places;
@@ -206,12 +211,12 @@ module _ (o : Order) (table : Rows) (s : Placing) (line : Line) (t : Taking o ta
           }
 
       pub alone_seated : (key : ℕ) (found : Option ℕ) (r : Result Placing Refusal) → found ≡ lowest_accepting o s i → found ≡ None
-          → key ≡ key_of k (deadline_at table i) i → r ≡ told (opening o s i) → Taken o s line r (line_with key lasts worsts')
+          → key ≡ key_of k (deadline_at table i) i → r ≡ told (opening o s i) → Taken o s line r (line_with key (record { lasts = lasts; worsts = worsts' }))
       alone_seated key found r lowest none key_is e = elim (dec_le (width_of o i) (o.processors - s.used)) [
         | yes fits ↦ (let on : r ≡ Ok (put (open_next s (width_of o i)) i k) = e ∙ ap told (opening_new o s i fits) in
             record {
               answer = on ∙ ap told (sym (step_open o s i turn (sym lowest ∙ none) fits));
-              lines = λ next_one done. (let same : put (open_next s (width_of o i)) i k ≡ next_one = cc (sym on ∙ done) in subst (λ (x : Placing). Lines o x (line_with key lasts worsts')) same
+              lines = λ next_one done. (let same : put (open_next s (width_of o i)) i k ≡ next_one = cc (sym on ∙ done) in subst (λ (x : Placing). Lines o x (line_with key (record { lasts = lasts; worsts = worsts' }))) same
                   (record {
                     stands = stands_opened o t.limits (widths o t.limits) placed s t.lines.stands t.early i next (omega (arith, t.lines.stands.laid.inside));
                     key_places = keys_then k key opened_few key_is _ refl;
@@ -241,10 +246,10 @@ module _ (o : Order) (table : Rows) (s : Placing) (line : Line) (t : Taking o ta
 
     -- none takes it, as the search leaves what is known
     pub none_takes : (key : ℕ) (found : Option ℕ) (tried after : Line) (r : Result Placing Refusal) → Lowest table line i trying s.opened found tried → found ≡ None
-        → key ≡ key_of s.opened (deadline_at table i) i → after ≡ seated (record { keys = tried.keys; placed = tried.placed; lasts = tried.lasts; worsts = set tried.worsts i (cost_at table i) }) key
+        → key ≡ key_of s.opened (deadline_at table i) i → after ≡ seated (record { keys = tried.keys; placed = tried.placed; results = lone_response tried.results }) key
         → r ≡ told (opening o s i) → Taken o s line r after
     unfolding lowest_accepting
     none_takes key found tried after r is none key_is put_in e =
-        let here : after ≡ line_with key lasts (set worsts i (cost_at table i)) =
-        put_in ∙ ap (λ (x : Line). seated (record { keys = x.keys; placed = x.placed; lasts = x.lasts; worsts = set x.worsts i (cost_at table i) }) key) (is.refused none) in
+        let here : after ≡ line_with key (lone_response line.results) =
+        put_in ∙ ap (λ (x : Line). seated (record { keys = x.keys; placed = x.placed; results = lone_response x.results }) key) (is.refused none) in
         subst (Taken o s line r) (sym here) (alone_seated (set worsts i (cost_at table i)) refl key found r is.answer none key_is e)

@@ -37,7 +37,7 @@ module _ (line : Line) where
   keys = line.keys
 
   abbrev worsts : List ℕ
-  worsts = line.worsts
+  worsts = line.results.worsts
 
   abbrev tasks : ℕ
   tasks = line.placed
@@ -179,7 +179,7 @@ module _ (line : Line) (so : Recording line) where
     number = number_at line.keys place
 
     abbrev written_now : Member
-    written_now = record { partition = home_in (key_at line.keys place); rank = place - first'; response = get_or line.worsts number 0 }
+    written_now = record { partition = home_in (key_at line.keys place); rank = place - first'; response = get_or line.results.worsts number 0 }
 
     part' : PartFrom line.keys line.placed first' (home_in (key_at line.keys place))
     part' = subst (λ (x : ℕ). PartFrom line.keys line.placed x (home_in (key_at line.keys place))) (sym e) (part_here line so members first home place is l (eqb (home_in (key_at line.keys place)) home) refl)
@@ -211,7 +211,7 @@ module _ (line : Line) (so : Recording line) where
         }
 
     -- as the code writes it
-    pub filling_next : (h number' : ℕ) → h ≡ home_in (key_at line.keys place) → number' ≡ number → Filling line (set members number' (record { partition = h; rank = place - first'; response = get_or line.worsts number' 0 })) first' h (place + 1)
+    pub filling_next : (h number' : ℕ) → h ≡ home_in (key_at line.keys place) → number' ≡ number → Filling line (set members number' (record { partition = h; rank = place - first'; response = get_or line.results.worsts number' 0 })) first' h (place + 1)
     filling_next h number' at there = rw (at, there) filling_more
 
   pub filling_all : (members : List Member) (first home place : ℕ) → Filling line members first home place → line.placed ≤ place

@@ -19,7 +19,7 @@ pub record Lines (o : Order) (s : Placing) (line : Line) : Type 0 where
   pub stands : Stands o line.placed s
   pub key_places : length line.keys ≡ most_tasks
   pub in_line : InLine o s.homes line.keys line.placed
-  pub known : Known o s.homes line.lasts line.worsts
+  pub known : Known o s.homes line.results
 
 -- a turn is to be taken
 pub record Taking (o : Order) (table : Rows) (s : Placing) (line : Line) : Type 0 where

@@ -26,7 +26,7 @@ fn records_of(line: &Line) -> [Member; Order::MOST_TASKS]
         members[number] = Member {
             partition: home,
             rank: (place - first) as u32,
-            response: line.worsts[number],
+            response: line.results.worsts[number],
         };
     }
     members

@@ -41,7 +41,7 @@ fn take_turn(
         line.seat(home, deadline, task);
         return Ok(placing.put(task, home));
     }
-    line.worsts[task] = table.costs[task];
+    line.results.worsts[task] = table.costs[task];
     line.seat(placing.opened, deadline, task);
     open_for(order, placing, task)
 }

@@ -22,12 +22,12 @@ use Rattle.demand.specs.Verdict.{Verdict}
 use Rattle.demand.specs.declared.Failing.TheVariants.{NoWindow, TooLate}
 use Rattle.demand.specs.Priority.{members_of}
 use Rattle.verdict.proofs.Told.{passed_told}
-use Rattle.inspect_tests.specs.declared.Results.{Results}
+use Rattle.trial.specs.declared.Results.{Results}
 use Rattle.inspect_tests.specs.Rules.{window_there, verdict_rules, task_test_rules, test_rules}
 use Rattle.inspect_tests.specs.Results.{verdict_here, worst_at, ResultsOf, Right}
 use Rattle.inspect_tests.proofs.Verdicts.{no_response}
 
-module _ (o : Order) (b : Build) (limits : WithinLimits o) (results : Results) (are : ResultsOf o b results) where
+module _ (o : Order) (b : Build) (limits : WithinLimits o) (results : Results (Option ℕ)) (are : ResultsOf o b results) where
   abbrev IsRight : ℕ → Type 0
   IsRight = Right b.members results.worsts
 

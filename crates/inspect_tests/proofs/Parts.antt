@@ -31,6 +31,7 @@ use Rattle.trial.specs.Known.{of_rank, Apart, Bounds, verdict_at}
 use Rattle.inspect_members.proofs.Stretches.{numbers_apart, part_ranked}
 use Rattle.inspect_tests.specs.Results.{Lineup, verdict_here, OpenBelow, worst_at, TestedRanks}
 use Rattle.asked.specs.declared.rows.Rows.{Rows}
+use Rattle.trial.specs.declared.Results.{Results}
 
 module _ (table : Rows) (keys : List ℕ) (tasks : ℕ) (o : Order) (b : Build) (is : Lineup table keys tasks o b) where
   pub few_tasks : tasks ≤ most_tasks
@@ -110,13 +111,13 @@ module _ (table : Rows) (keys : List ℕ) (tasks : ℕ) (o : Order) (b : Build) 
           let mine : (r : ℕ) → r < size → OpenBelow o b (number_at own r) (of_rank own lasts r) = λ r l. still (number_at own r) (omega (arith, is.in_line.count, ranked.within r l)) in
           record { places = places; near = λ r l. (mine r l).near; unmet = λ r l. unmet_rows r (of_rank own lasts r) l (mine r l) }
 
-      module _ (lowest : ℕ) (lasts : List ℕ) (worsts : List (Option ℕ)) (lowest' : ℕ) (lasts' : List ℕ) (worsts' : List (Option ℕ)) (tested : TestedRanks rows own size size lowest lasts worsts lowest' lasts' worsts') where
+      module _ (lowest : ℕ) (results : Results (Option ℕ)) (lowest' : ℕ) (results' : Results (Option ℕ)) (tested : TestedRanks rows own size size lowest results lowest' results') where
         -- windows stay open so long
-        pub still_after : ((i : ℕ) → i < tasks → OpenBelow o b i (get_or lasts i 0)) → (i : ℕ) → i < tasks → OpenBelow o b i (get_or lasts' i 0)
+        pub still_after : ((i : ℕ) → i < tasks → OpenBelow o b i (get_or results.lasts i 0)) → (i : ℕ) → i < tasks → OpenBelow o b i (get_or results'.lasts i 0)
         still_after still i l = elim (ℕ_discrete (home_of b i) home) [
           | yes mine ↦ (let place = own_place i l mine in
-              subst (λ (x : ℕ). OpenBelow o b x (get_or lasts' x 0)) place.2
-              (rows_unmet place.0 (of_rank own lasts' place.0) place.1 (tested.bounds.near place.0 place.1) (tested.bounds.unmet place.0 place.1)))
+              subst (λ (x : ℕ). OpenBelow o b x (get_or results'.lasts x 0)) place.2
+              (rows_unmet place.0 (of_rank own results'.lasts place.0) place.1 (tested.bounds.near place.0 place.1) (tested.bounds.unmet place.0 place.1)))
           | no other ↦ subst (OpenBelow o b i) (sym (tested.other_lasts i (λ r f t e. other (ap (home_of b) (sym e) ∙ own_home r t)))) (still i l)
         ]
 
@@ -129,13 +130,13 @@ module _ (table : Rows) (keys : List ℕ) (tasks : ℕ) (o : Order) (b : Build) 
             tested.fails
 
         -- and the responses of all below it before the next partition are known
-        pub responses_after : ((r : ℕ) → r < first → number_at keys r < lowest → worst_at worsts (number_at keys r) ≡ worst_of (verdict_here o b (number_at keys r))) →
-            (r : ℕ) → r < first + size → number_at keys r < lowest' → worst_at worsts' (number_at keys r) ≡ worst_of (verdict_here o b (number_at keys r))
+        pub responses_after : ((r : ℕ) → r < first → number_at keys r < lowest → worst_at results.worsts (number_at keys r) ≡ worst_of (verdict_here o b (number_at keys r))) →
+            (r : ℕ) → r < first + size → number_at keys r < lowest' → worst_at results'.worsts (number_at keys r) ≡ worst_of (verdict_here o b (number_at keys r))
         responses_after known r l below = elim (dec_lt r first) [
           | yes early ↦ tested.other_worsts (number_at keys r) (λ s f t e. absurd (omega (arith, early, apart (first + s) r (omega (arith, size_most)) (omega (arith, size_most)) (sym (own_number s t) ∙ e)))) ∙ known r early (omega (arith, below, tested.lower))
           | no late ↦ (let s = r - first in
               let inside : s < size = omega arith in
               let e : first + s ≡ r = omega arith in
               let here : number_at own s ≡ number_at keys r = own_number s inside ∙ ap (number_at keys) e in
-              subst (λ (x : ℕ). worst_at worsts' x ≡ worst_of (verdict_here o b x)) here (tested.responses s inside (omega (arith, below, here)) ∙ ap worst_of (verdict_at_lem s inside)))
+              subst (λ (x : ℕ). worst_at results'.worsts x ≡ worst_of (verdict_here o b x)) here (tested.responses s inside (omega (arith, below, here)) ∙ ap worst_of (verdict_at_lem s inside)))
         ]

@@ -22,20 +22,21 @@ use Rattle.roster.specs.Lined.{PartFrom, part_size}
 use Rattle.roster.specs.Rows.{RowsInLine}
 use Rattle.roster.proofs.Ranks.{rank_is}
 use Rattle.roster.proofs.Runs.{run_on, run_most, run_passes, run_stops}
-use Rattle.trial.specs.Known.{Apart, Bounds}
+use Rattle.trial.specs.Known.{no_results, Apart, Bounds}
 use Rattle.inspect_members.proofs.Stretches.{homes_rise, placed}
 use Rattle.inspect_tests.specs.Rules.{window_there}
 use Rattle.inspect_tests.specs.Results.{SomeLineup, verdict_here, OpenBelow, worst_at, TestedRanks, TestedBefore, ResultsFor, TaskThere}
 use Rattle.inspect_tests.proofs.Parts.{few_tasks, size_few, ranked, own_place, own_apart, next_ends, fit, verdict_at_lem, unmet_rows, bounds_of, still_after, fails_after, responses_after}
 use Rattle.inspect_tests.proofs.Verdicts.{window_over_lem}
 use Rattle.asked.specs.declared.rows.Rows.{Rows}
+use Rattle.trial.specs.declared.Results.{Results}
 
 -- a copy of so many keys of the line
 abbrev pub Copied : (keys : List ℕ) → (first : ℕ) → (own : List ℕ) → (n : ℕ) → Type 0
 Copied keys first own n = (r : ℕ) → r < n → key_at own r ≡ key_at keys (first + r)
 
 -- nothing tested
-pub before_all : (table : Rows) (keys : List ℕ) (tasks : ℕ) → TestedBefore table keys tasks 0 most_tasks (replicate 32 0) (replicate 32 None)
+pub before_all : (table : Rows) (keys : List ℕ) (tasks : ℕ) → TestedBefore table keys tasks 0 most_tasks (no_results None)
 before_all table keys tasks =
     record {
       upto = omega arith;
@@ -51,20 +52,20 @@ before_all table keys tasks =
     }
 
 -- all tested
-pub after_all : (table : Rows) (keys : List ℕ) (tasks : ℕ) (first lowest : ℕ) (lasts : List ℕ) (worsts : List (Option ℕ)) → tasks ≤ first → TestedBefore table keys tasks first lowest lasts worsts → ResultsFor table keys tasks (record { worsts = worsts; lasts = lasts })
-after_all table keys tasks first lowest lasts worsts all known o b is =
+pub after_all : (table : Rows) (keys : List ℕ) (tasks : ℕ) (first lowest : ℕ) (results : Results (Option ℕ)) → tasks ≤ first → TestedBefore table keys tasks first lowest results → ResultsFor table keys tasks results
+after_all table keys tasks first lowest results all known o b is =
     record {
       lowest = lowest;
       none = known.none;
       responses = λ i l upto. elim (ℕ_discrete i lowest) [
-        | yes same ↦ ap (worst_at worsts) same ∙ known.none ∙ sym (known.fails o b is (omega (arith, same, l, is.in_line.count))) ∙ ap (λ (x : ℕ). worst_of (verdict_here o b x)) (sym same)
+        | yes same ↦ ap (worst_at results.worsts) same ∙ known.none ∙ sym (known.fails o b is (omega (arith, same, l, is.in_line.count))) ∙ ap (λ (x : ℕ). worst_of (verdict_here o b x)) (sym same)
         | no other ↦ (let place = placed o b is.in_line.limits keys is.in_line.line i l in
-            subst (λ (x : ℕ). worst_at worsts x ≡ worst_of (verdict_here o b x)) place.2 (known.responses o b is place.0 (omega (arith, place.1, is.in_line.count, all)) (omega (arith, place.2, other, upto))))
+            subst (λ (x : ℕ). worst_at results.worsts x ≡ worst_of (verdict_here o b x)) place.2 (known.responses o b is place.0 (omega (arith, place.1, is.in_line.count, all)) (omega (arith, place.2, other, upto))))
       ];
       still = λ i l. known.still o b is i (omega (arith, is.in_line.count));
     }
 
-module _ (table : Rows) (keys : List ℕ) (tasks first lowest : ℕ) (lasts : List ℕ) (worsts : List (Option ℕ)) (some : SomeLineup table keys tasks) (here : first < tasks) (known : TestedBefore table keys tasks first lowest lasts worsts) where
+module _ (table : Rows) (keys : List ℕ) (tasks first lowest : ℕ) (results : Results (Option ℕ)) (some : SomeLineup table keys tasks) (here : first < tasks) (known : TestedBefore table keys tasks first lowest results) where
   abbrev home : ℕ
   home = home_in (key_at keys first)
 
@@ -84,24 +85,24 @@ module _ (table : Rows) (keys : List ℕ) (tasks first lowest : ℕ) (lasts : Li
 
   module _ (own : List ℕ) (rows : Rows) where
     needs_at : Copied keys first own (part_size keys tasks first home) → RowsInLine table own (part_size keys tasks first home) rows →
-        RowsFit rows (part_size keys tasks first home) × Apart own (part_size keys tasks first home) × Bounds rows own (part_size keys tasks first home) lasts × (length worsts ≡ most_tasks) × (worst_at worsts lowest ≡ None)
+        RowsFit rows (part_size keys tasks first home) × Apart own (part_size keys tasks first home) × Bounds rows own (part_size keys tasks first home) results.lasts × (length results.worsts ≡ most_tasks) × (worst_at results.worsts lowest ≡ None)
     needs_at copied filled =
         let o = some.0 in
         let b = some.1 in
         let is = some.2 in (
           fit table keys tasks o b is first home part_from own copied rows filled,
           own_apart table keys tasks o b is first home part_from own copied,
-          bounds_of table keys tasks o b is first home part_from own copied rows filled lasts known.lasts_places (known.still o b is),
+          bounds_of table keys tasks o b is first home part_from own copied rows filled results.lasts known.lasts_places (known.still o b is),
           known.worsts_places,
           known.none,
         )
 
-    pub part_needs : (n : ℕ) → n ≡ part_size keys tasks first home → Copied keys first own n → RowsInLine table own n rows → RowsFit rows n × Apart own n × Bounds rows own n lasts × (length worsts ≡ most_tasks) × (worst_at worsts lowest ≡ None)
-    part_needs n e = subst (λ (x : ℕ). Copied keys first own x → RowsInLine table own x rows → RowsFit rows x × Apart own x × Bounds rows own x lasts × (length worsts ≡ most_tasks) × (worst_at worsts lowest ≡ None)) (sym e) needs_at
+    pub part_needs : (n : ℕ) → n ≡ part_size keys tasks first home → Copied keys first own n → RowsInLine table own n rows → RowsFit rows n × Apart own n × Bounds rows own n results.lasts × (length results.worsts ≡ most_tasks) × (worst_at results.worsts lowest ≡ None)
+    part_needs n e = subst (λ (x : ℕ). Copied keys first own x → RowsInLine table own x rows → RowsFit rows x × Apart own x × Bounds rows own x results.lasts × (length results.worsts ≡ most_tasks) × (worst_at results.worsts lowest ≡ None)) (sym e) needs_at
 
-    gives_at : (lowest' : ℕ) (lasts' : List ℕ) (worsts' : List (Option ℕ)) → Copied keys first own (part_size keys tasks first home) → RowsInLine table own (part_size keys tasks first home) rows →
-        TestedRanks rows own (part_size keys tasks first home) (part_size keys tasks first home) lowest lasts worsts lowest' lasts' worsts' → (0 < part_size keys tasks first home) × TestedBefore table keys tasks (first + part_size keys tasks first home) lowest' lasts' worsts'
-    gives_at lowest' lasts' worsts' copied filled tested =
+    gives_at : (lowest' : ℕ) (results' : Results (Option ℕ)) → Copied keys first own (part_size keys tasks first home) → RowsInLine table own (part_size keys tasks first home) rows →
+        TestedRanks rows own (part_size keys tasks first home) (part_size keys tasks first home) lowest results lowest' results' → (0 < part_size keys tasks first home) × TestedBefore table keys tasks (first + part_size keys tasks first home) lowest' results'
+    gives_at lowest' results' copied filled tested =
         let o₀ = some.0 in
         let b₀ = some.1 in
         let is₀ = some.2 in (
@@ -111,17 +112,17 @@ module _ (table : Rows) (keys : List ℕ) (tasks first lowest : ℕ) (lasts : Li
             ends = next_ends table keys tasks o₀ b₀ is₀ first home part_from own copied;
             lasts_places = tested.bounds.places;
             worsts_places = tested.places;
-            still = λ o b is. still_after table keys tasks o b is first home part_from own copied rows filled lowest lasts worsts lowest' lasts' worsts' tested (known.still o b is);
-            fails = λ o b is. fails_after table keys tasks o b is first home part_from own copied rows filled lowest lasts worsts lowest' lasts' worsts' tested (known.fails o b is);
+            still = λ o b is. still_after table keys tasks o b is first home part_from own copied rows filled lowest results lowest' results' tested (known.still o b is);
+            fails = λ o b is. fails_after table keys tasks o b is first home part_from own copied rows filled lowest results lowest' results' tested (known.fails o b is);
             none = tested.none;
-            responses = λ o b is. responses_after table keys tasks o b is first home part_from own copied rows filled lowest lasts worsts lowest' lasts' worsts' tested (known.responses o b is);
+            responses = λ o b is. responses_after table keys tasks o b is first home part_from own copied rows filled lowest results lowest' results' tested (known.responses o b is);
           },
         )
 
-    pub part_gives : (n : ℕ) → n ≡ part_size keys tasks first home → (lowest' : ℕ) (lasts' : List ℕ) (worsts' : List (Option ℕ)) → Copied keys first own n → RowsInLine table own n rows →
-        TestedRanks rows own n n lowest lasts worsts lowest' lasts' worsts' → (0 < n) × TestedBefore table keys tasks (first + n) lowest' lasts' worsts'
-    part_gives n e lowest' lasts' worsts' =
-        subst (λ (x : ℕ). Copied keys first own x → RowsInLine table own x rows → TestedRanks rows own x x lowest lasts worsts lowest' lasts' worsts' → (0 < x) × TestedBefore table keys tasks (first + x) lowest' lasts' worsts') (sym e) (gives_at lowest' lasts' worsts')
+    pub part_gives : (n : ℕ) → n ≡ part_size keys tasks first home → (lowest' : ℕ) (results' : Results (Option ℕ)) → Copied keys first own n → RowsInLine table own n rows →
+        TestedRanks rows own n n lowest results lowest' results' → (0 < n) × TestedBefore table keys tasks (first + n) lowest' results'
+    part_gives n e lowest' results' =
+        subst (λ (x : ℕ). Copied keys first own x → RowsInLine table own x rows → TestedRanks rows own x x lowest results lowest' results' → (0 < x) × TestedBefore table keys tasks (first + x) lowest' results') (sym e) (gives_at lowest' results')
 
 -- a count of n is few
 pub part_few : (table : Rows) (keys : List ℕ) (tasks : ℕ) → SomeLineup table keys tasks → (first n : ℕ) (lives : ℕ) → n ≡ part_size keys tasks first lives → n ≤ most_tasks

@@ -17,11 +17,12 @@ use Rattle.asked.specs.Met.{UnmetBelow}
 use Rattle.verdict.specs.declared.Tested.{Tested}
 use Rattle.verdict.specs.Tested.{TestedAs, worst_of}
 use Rattle.roster.specs.Keys.{number_at}
-use Rattle.trial.specs.Known.{of_rank, Apart, Bounds, verdict_at}
+use Rattle.trial.specs.Known.{of_rank, Apart, Bounds, noted, verdict_at}
 use Rattle.trial.proofs.Heads.{taken_over}
 use Rattle.trial.proofs.Testing.{only-put, bounds_put}
 use Rattle.inspect_tests.specs.Results.{last_above, TestedBelow, lowered, worst_at, OnlyWorsts, FailsAmong, TestedRanks}
 use Rattle.asked.specs.declared.rows.Rows.{Rows}
+use Rattle.trial.specs.declared.Results.{Results}
 
 -- a member left out: its window closes no earlier than the one above it
 module _ (rows : Rows) (keys : List ℕ) (count rank lowest : ℕ) (lasts : List ℕ) (inside : rank < count) (fit : RowsFit rows count) (known : Bounds rows keys count lasts) where
@@ -57,18 +58,18 @@ module _ (keys : List ℕ) (worsts : List (Option ℕ)) (r : ℕ) (v : Option �
   only_worsts : (before : List (Option ℕ)) → OnlyWorsts keys 0 r before worsts → OnlyWorsts keys 0 (r + 1) before (set worsts (number_at keys r) v)
   only_worsts before same j outside = worst_others j (λ e. outside r (omega arith) (omega arith) (sym e)) ∙ same j (λ s f t. outside s f (omega arith))
 
-module _ (rows : Rows) (keys : List ℕ) (count : ℕ) (apart : Apart keys count) (lowest₀ : ℕ) (lasts₀ : List ℕ) (worsts₀ : List (Option ℕ)) where
-  pub ranks_none : Bounds rows keys count lasts₀ → length worsts₀ ≡ most_tasks → worst_at worsts₀ lowest₀ ≡ None → TestedRanks rows keys count 0 lowest₀ lasts₀ worsts₀ lowest₀ lasts₀ worsts₀
+module _ (rows : Rows) (keys : List ℕ) (count : ℕ) (apart : Apart keys count) (lowest₀ : ℕ) (results₀ : Results (Option ℕ)) where
+  pub ranks_none : Bounds rows keys count results₀.lasts → length results₀.worsts ≡ most_tasks → worst_at results₀.worsts lowest₀ ≡ None → TestedRanks rows keys count 0 lowest₀ results₀ lowest₀ results₀
   ranks_none known places none =
       record { bounds = known; places = places; lower = omega arith; fails = inl refl; none = none; responses = λ r l. absurd (omega (arith, l)); other_lasts = λ j outside. refl; other_worsts = λ j outside. refl }
 
-  module _ (rank lowest : ℕ) (lasts : List ℕ) (worsts : List (Option ℕ)) (inside : rank < count) (known : TestedRanks rows keys count rank lowest₀ lasts₀ worsts₀ lowest lasts worsts)
+  module _ (rank lowest : ℕ) (results : Results (Option ℕ)) (inside : rank < count) (known : TestedRanks rows keys count rank lowest₀ results₀ lowest results)
       (t : Tested) (is : TestedBelow rows keys count rank lowest t) (lowest' : ℕ) (down : lowest' ≡ lowered lowest (number_at keys rank) t.worst) where
     abbrev number : ℕ
     number = number_at keys rank
 
-    abbrev worsts' : List (Option ℕ)
-    worsts' = set worsts number t.worst
+    abbrev results' : Results (Option ℕ)
+    results' = noted results number t.last t.worst
 
     -- where it stays, or falls to one that fails
     falls : (lowest' ≡ lowest) ⊎ ((lowest' ≡ number) × (number < lowest) × (t.worst ≡ None))
@@ -86,14 +87,14 @@ module _ (rows : Rows) (keys : List ℕ) (count : ℕ) (apart : Apart keys count
     falls_to : lowest' ≤ lowest
     falls_to = ⊎_elim (λ e. omega (arith, e)) (λ f. omega (arith, f.0, f.1)) falls
 
-    still_none : (lowest' ≡ lowest) → worst_at worsts' lowest' ≡ None
+    still_none : (lowest' ≡ lowest) → worst_at results'.worsts lowest' ≡ None
     still_none e = elim (ℕ_discrete number lowest) [
-      | yes same ↦ ap (worst_at worsts') (e ∙ sym same) ∙ worst_own keys worsts rank t.worst known.places ∙ is.left_out (omega (arith, same))
-      | no other ↦ ap (worst_at worsts') e ∙ worst_others keys worsts rank t.worst lowest (λ s. other (sym s)) ∙ known.none
+      | yes same ↦ ap (worst_at results'.worsts) (e ∙ sym same) ∙ worst_own keys results.worsts rank t.worst known.places ∙ is.left_out (omega (arith, same))
+      | no other ↦ ap (worst_at results'.worsts) e ∙ worst_others keys results.worsts rank t.worst lowest (λ s. other (sym s)) ∙ known.none
     ]
 
-    none_there : worst_at worsts' lowest' ≡ None
-    none_there = ⊎_elim still_none (λ f. ap (worst_at worsts') f.0 ∙ worst_own keys worsts rank t.worst known.places ∙ f.2) falls
+    none_there : worst_at results'.worsts lowest' ≡ None
+    none_there = ⊎_elim still_none (λ f. ap (worst_at results'.worsts) f.0 ∙ worst_own keys results.worsts rank t.worst known.places ∙ f.2) falls
 
     some_fails : (lowest' ≡ lowest₀) ⊎ FailsAmong rows keys count lowest'
     some_fails =
@@ -102,19 +103,19 @@ module _ (rows : Rows) (keys : List ℕ) (count : ℕ) (apart : Apart keys count
         (λ f. inr (rank, inside, sym f.0, sym (is.worst f.1) ∙ f.2))
         falls
 
-    pub ranks_more : TestedRanks rows keys count (rank + 1) lowest₀ lasts₀ worsts₀ lowest' (set lasts number t.last) worsts'
+    pub ranks_more : TestedRanks rows keys count (rank + 1) lowest₀ results₀ lowest' results'
     ranks_more =
         record {
-          bounds = bounds_put rows keys count lasts rank t.last apart inside is.near is.unmet known.bounds;
-          places = length-set worsts number t.worst ∙ known.places;
+          bounds = bounds_put rows keys count results.lasts rank t.last apart inside is.near is.unmet known.bounds;
+          places = length-set results.worsts number t.worst ∙ known.places;
           lower = omega (arith, falls_to, known.lower);
           fails = some_fails;
           none = none_there;
           responses = λ r l below. elim (ℕ_discrete r rank) [
             | yes same ↦ (let mine : number < lowest = omega (arith, below, ap (number_at keys) same, falls_to) in
-                ap (λ (x : ℕ). worst_at worsts' (number_at keys x)) same ∙ worst_own keys worsts rank t.worst known.places ∙ is.worst mine ∙ ap (λ (x : ℕ). worst_of (verdict_at rows count x)) (sym same))
-            | no other ↦ worst_others keys worsts rank t.worst (number_at keys r) (λ e. other (apart r rank (omega (arith, inside, l, other)) inside e)) ∙ known.responses r (omega (arith, l, other)) (omega (arith, below, falls_to))
+                ap (λ (x : ℕ). worst_at results'.worsts (number_at keys x)) same ∙ worst_own keys results.worsts rank t.worst known.places ∙ is.worst mine ∙ ap (λ (x : ℕ). worst_of (verdict_at rows count x)) (sym same))
+            | no other ↦ worst_others keys results.worsts rank t.worst (number_at keys r) (λ e. other (apart r rank (omega (arith, inside, l, other)) inside e)) ∙ known.responses r (omega (arith, l, other)) (omega (arith, below, falls_to))
           ];
-          other_lasts = only-put keys lasts rank t.last 0 lasts₀ (omega arith) known.other_lasts;
-          other_worsts = only_worsts keys worsts rank t.worst worsts₀ known.other_worsts;
+          other_lasts = only-put keys results.lasts rank t.last 0 results₀.lasts (omega arith) known.other_lasts;
+          other_worsts = only_worsts keys results.worsts rank t.worst results₀.worsts known.other_worsts;
         }

@@ -18,7 +18,7 @@ use Rattle.roster.specs.Keys.{home_in, key_at, number_at}
 use Rattle.roster.specs.Rows.{RowsByNumber}
 use Rattle.trial.specs.Known.{of_rank, verdict_at, Bounds, OnlyRanks}
 use Rattle.inspect_members.specs.Line.{LineFor}
-use Rattle.inspect_tests.specs.declared.Results.{Results}
+use Rattle.trial.specs.declared.Results.{Results}
 use Rattle.inspect_tests.specs.Rules.{window_there}
 
 -- the rows by number and the line of keys of an order and a build
@@ -68,36 +68,36 @@ abbrev pub FailsAmong : (rows : Rows) → (keys : List ℕ) → (count number : 
 FailsAmong rows keys count number = (r : ℕ) × (r < count) × (number_at keys r ≡ number) × (worst_of (verdict_at rows count r) ≡ None)
 
 -- the ranks before this one tested: the lowest number that fails; by number the worst responses of those below it; and of all ticks before which windows do not close
-pub record TestedRanks (rows : Rows) (keys : List ℕ) (count to lowest : ℕ) (lasts : List ℕ) (worsts : List (Option ℕ)) (lowest' : ℕ) (lasts' : List ℕ) (worsts' : List (Option ℕ)) : Type 0 where
-  pub bounds : Bounds rows keys count lasts'
-  pub places : length worsts' ≡ most_tasks
+pub record TestedRanks (rows : Rows) (keys : List ℕ) (count to lowest : ℕ) (results : Results (Option ℕ)) (lowest' : ℕ) (results' : Results (Option ℕ)) : Type 0 where
+  pub bounds : Bounds rows keys count results'.lasts
+  pub places : length results'.worsts ≡ most_tasks
   pub lower : lowest' ≤ lowest
   pub fails : (lowest' ≡ lowest) ⊎ FailsAmong rows keys count lowest'
-  pub none : worst_at worsts' lowest' ≡ None
-  pub responses : (r : ℕ) → r < to → number_at keys r < lowest' → worst_at worsts' (number_at keys r) ≡ worst_of (verdict_at rows count r)
-  pub other_lasts : OnlyRanks keys 0 to lasts lasts'
-  pub other_worsts : OnlyWorsts keys 0 to worsts worsts'
+  pub none : worst_at results'.worsts lowest' ≡ None
+  pub responses : (r : ℕ) → r < to → number_at keys r < lowest' → worst_at results'.worsts (number_at keys r) ≡ worst_of (verdict_at rows count r)
+  pub other_lasts : OnlyRanks keys 0 to results.lasts results'.lasts
+  pub other_worsts : OnlyWorsts keys 0 to results.worsts results'.worsts
 
 -- the tasks before this place of the line tested up to the lowest number that fails, of whatever order and build the line is; a partition ends there
-pub record TestedBefore (table : Rows) (keys : List ℕ) (tasks first lowest : ℕ) (lasts : List ℕ) (worsts : List (Option ℕ)) : Type 0 where
+pub record TestedBefore (table : Rows) (keys : List ℕ) (tasks first lowest : ℕ) (results : Results (Option ℕ)) : Type 0 where
   pub upto : first ≤ tasks
   pub ends : (r s : ℕ) → r < first → first ≤ s → s < tasks → home_in (key_at keys r) < home_in (key_at keys s)
-  pub lasts_places : length lasts ≡ most_tasks
-  pub worsts_places : length worsts ≡ most_tasks
-  pub still : (o : Order) (b : Build) → Lineup table keys tasks o b → (i : ℕ) → i < tasks → OpenBelow o b i (get_or lasts i 0)
+  pub lasts_places : length results.lasts ≡ most_tasks
+  pub worsts_places : length results.worsts ≡ most_tasks
+  pub still : (o : Order) (b : Build) → Lineup table keys tasks o b → (i : ℕ) → i < tasks → OpenBelow o b i (get_or results.lasts i 0)
   pub fails : (o : Order) (b : Build) → Lineup table keys tasks o b → lowest < tasks → worst_of (verdict_here o b lowest) ≡ None
-  pub none : worst_at worsts lowest ≡ None
-  pub responses : (o : Order) (b : Build) → Lineup table keys tasks o b → (r : ℕ) → r < first → number_at keys r < lowest → worst_at worsts (number_at keys r) ≡ worst_of (verdict_here o b (number_at keys r))
+  pub none : worst_at results.worsts lowest ≡ None
+  pub responses : (o : Order) (b : Build) → Lineup table keys tasks o b → (r : ℕ) → r < first → number_at keys r < lowest → worst_at results.worsts (number_at keys r) ≡ worst_of (verdict_here o b (number_at keys r))
 
 -- all tested, up to the lowest number that fails
-pub record ResultsOf (o : Order) (b : Build) (r : Results) : Type 0 where
+pub record ResultsOf (o : Order) (b : Build) (r : Results (Option ℕ)) : Type 0 where
   pub lowest : ℕ
   pub none : worst_at r.worsts lowest ≡ None
   pub responses : (i : ℕ) → i < o.tasks → i ≤ lowest → worst_at r.worsts i ≡ worst_of (verdict_here o b i)
   pub still : (i : ℕ) → i < o.tasks → OpenBelow o b i (get_or r.lasts i 0)
 
 -- of whatever order and build the rows and the line are
-abbrev pub ResultsFor : (table : Rows) → (keys : List ℕ) → (tasks : ℕ) → Results → Type 0
+abbrev pub ResultsFor : (table : Rows) → (keys : List ℕ) → (tasks : ℕ) → Results (Option ℕ) → Type 0
 ResultsFor table keys tasks r = (o : Order) (b : Build) → Lineup table keys tasks o b → ResultsOf o b r
 
 -- a task passes, with the response that is recorded

@@ -13,14 +13,8 @@ ghost use Rattle.inspect_tests.specs.Results.{SomeLineup, last_above, TestedBelo
 
 use asked::Rows;
 use model::{Build, BuildCause, Member, Order, Refusal};
+use trial::Results;
 use verdict::Tested;
-
-// By number, of the tasks up to the lowest that does not pass: a task's worst response if it passes; and of every task a tick before which its window does not close.
-#[derive(Clone, Copy)]
-pub struct Results {
-    pub worsts: [Option<u32>; Order::MOST_TASKS],
-    pub lasts: [u32; Order::MOST_TASKS],
-}
 
 // A partition tested: how many members it has, and the lowest number of a task that does not pass so far.
 #[derive(Clone, Copy)]
@@ -74,18 +68,16 @@ fn test_members(
     keys: &[u32; Order::MOST_TASKS],
     count: usize,
     lowest: usize,
-    lasts: &mut [u32; Order::MOST_TASKS],
-    worsts: &mut [Option<u32>; Order::MOST_TASKS],
+    results: &mut Results<Option<u32>>,
 ) -> usize
-    requires { RowsFit rows.now count × Apart keys.now count × Bounds rows.now keys.now count lasts.old × (length worsts.old ≡ most_tasks) × (worst_at worsts.old lowest ≡ None) }
-    ensures { TestedRanks rows.now keys.now count count lowest lasts.old worsts.old result lasts.new worsts.new }
+    requires { RowsFit rows.now count × Apart keys.now count × Bounds rows.now keys.now count results.old.lasts × (length results.old.worsts ≡ most_tasks) × (worst_at results.old.worsts lowest ≡ None) }
+    ensures { TestedRanks rows.now keys.now count count lowest results.old result results.new }
 {
     let mut failing = lowest;
     for rank in 0..count {
-        let tested = test_below(rows, keys, count, rank, failing, lasts);
+        let tested = test_below(rows, keys, count, rank, failing, &results.lasts);
         let number = roster::number_in(keys[rank]);
-        lasts[number] = tested.last;
-        worsts[number] = tested.worst;
+        results.note(number, tested.last, tested.worst);
         failing = lowered(failing, number, tested.worst);
     }
     failing
@@ -98,39 +90,37 @@ fn test_part(
     tasks: usize,
     first: usize,
     lowest: usize,
-    lasts: &mut [u32; Order::MOST_TASKS],
-    worsts: &mut [Option<u32>; Order::MOST_TASKS],
+    results: &mut Results<Option<u32>>,
 ) -> TestedPart
-    requires { (first < tasks) × SomeLineup table.now keys.now tasks × TestedBefore table.now keys.now tasks first lowest lasts.old worsts.old }
-    ensures { (0 < result.size) × TestedBefore table.now keys.now tasks (first + result.size) result.lowest lasts.new worsts.new }
+    requires { (first < tasks) × SomeLineup table.now keys.now tasks × TestedBefore table.now keys.now tasks first lowest results.old }
+    ensures { (0 < result.size) × TestedBefore table.now keys.now tasks (first + result.size) result.lowest results.new }
 {
     let mut own = [0u32; Order::MOST_TASKS];
     let mut rows = Rows::zero();
     let size = roster::members_of(keys, tasks, first, roster::home_in(keys[first]), &mut own);
     roster::fill_rows(table, &own, size, &mut rows);
-    let failing = test_members(&rows, &own, size, lowest, lasts, worsts);
+    let failing = test_members(&rows, &own, size, lowest, results);
     TestedPart {
         size,
         lowest: failing,
     }
 }
 
-// Partition by partition.
-fn test_all(table: &Rows, keys: &[u32; Order::MOST_TASKS], tasks: usize) -> Results
+// Partition by partition: the worst response of each task up to the lowest that does not pass, if the task passes.
+fn test_all(table: &Rows, keys: &[u32; Order::MOST_TASKS], tasks: usize) -> Results<Option<u32>>
     requires { SomeLineup table.now keys.now tasks }
     ensures { ResultsFor table.now keys.now tasks result }
 {
-    let mut worsts = [None; Order::MOST_TASKS];
-    let mut lasts = [0u32; Order::MOST_TASKS];
+    let mut results = Results::none(None);
     let mut lowest = Order::MOST_TASKS;
     let mut first: usize = 0;
     // No range: each step is as long as a partition.
     while first < tasks {
-        let part = test_part(table, keys, tasks, first, lowest, &mut lasts, &mut worsts);
+        let part = test_part(table, keys, tasks, first, lowest, &mut results);
         lowest = part.lowest;
         first += part.size;
     }
-    Results { worsts, lasts }
+    results
 }
 
 // The first place of a partition in the line.

@@ -28,6 +28,7 @@ use Rattle.asked.specs.declared.rows.Rows.{Rows}
 use Rattle.asked.specs.Rows.{cost_at, asked_by, blocking_in, RowsFit}
 use Rattle.asked.specs.Met.{UnmetBelow}
 use Rattle.trial.specs.Known.{of_rank, verdict_at, passes_at, Shielded, KnownBefore, KnownAfter}
+use Rattle.trial.specs.declared.Results.{Results}
 use Rattle.roster.specs.Keys.{key_of, key_number, key_at, number_at, spot_for, with_key}
 use Rattle.roster.specs.Rows.{RowsByNumber, RowsInLine}
 use Rattle.roster.specs.Ranked.{Ranked, RowsOf}
@@ -195,21 +196,21 @@ module _ (o : Order) (limits : WithinLimits o) (homes : Homes) (places : length 
         omega (arith, is s below, asked_with o limits (living_in homes' k) (number_at own') count rows ranked few_rows rows_are r s l, blocking_is o limits (living_in homes' k) (number_at own') count rows ranked few_rows rows_are r l)
 
     -- before the trial
-    module _ (lasts worsts : List ℕ) (known : Known o homes lasts worsts) where
+    module _ (results : Results ℕ) (known : Known o homes results) where
       lived : (r : ℕ) → r < count → number_at own' r ≢ task → living_in homes k (number_at own' r) ≡ true
       lived r l away = lived_there (number_at own' r) (line_now.within r l) away (line_now.members r l)
 
       at_home : (r : ℕ) → (l : r < count) → (away : number_at own' r ≢ task) → home_at homes (number_at own' r) ≡ k
       at_home r l away = living_says homes k (number_at own' r) (lived r l away)
 
-      still_open : (r : ℕ) → r < count → UnmetBelow (asked_by rows (r + 1)) (blocking_in rows count r) (of_rank own' lasts r)
+      still_open : (r : ℕ) → r < count → UnmetBelow (asked_by rows (r + 1)) (blocking_in rows count r) (of_rank own' results.lasts r)
       still_open r l = elim (ℕ_discrete (number_at own' r) task) [
-        | yes same ↦ (let none : of_rank own' lasts r ≡ 0 = ap (λ (i : ℕ). get_or lasts i 0) same ∙ known.waiting task known_task waits in λ s below. absurd (omega arith))
+        | yes same ↦ (let none : of_rank own' results.lasts r ≡ 0 = ap (λ (i : ℕ). get_or results.lasts i 0) same ∙ known.waiting task known_task waits in λ s below. absurd (omega arith))
         | no away ↦
             (let i = number_at own' r in
             let was = known.unclosed i (line_now.within r l) (placed_there i (lived r l away)) in
-            open_rows r (get_or lasts i 0) l (open_more o (living_in homes k) (living_in homes' k) more_there i (get_or lasts i 0)
-            (subst (λ (h : ℕ). OpenUntil o (living_in homes h) i (get_or lasts i 0)) (at_home r l away) was)))
+            open_rows r (get_or results.lasts i 0) l (open_more o (living_in homes k) (living_in homes' k) more_there i (get_or results.lasts i 0)
+            (subst (λ (h : ℕ). OpenUntil o (living_in homes h) i (get_or results.lasts i 0)) (at_home r l away) was)))
       ]
 
       -- a shielded member is blocked as long already
@@ -226,7 +227,7 @@ module _ (o : Order) (limits : WithinLimits o) (homes : Homes) (places : length 
           let its : cost_at rows is.by ≡ cost_of o x = (rows_are is.by is.inside).cost_is in
           omega (arith, is.long, counts, most, mine, its)
 
-      stands : (h : ℕ) → h < newcomer → Shielded rows count newcomer h → verdict_at rows count h ≡ Ok (of_rank own' worsts h)
+      stands : (h : ℕ) → h < newcomer → Shielded rows count newcomer h → verdict_at rows count h ≡ Ok (of_rank own' results.worsts h)
       stands h a is =
           let l : h < count = omega (arith, newcomer_in) in
           let j = number_at own' h in
@@ -237,7 +238,7 @@ module _ (o : Order) (limits : WithinLimits o) (homes : Homes) (places : length 
           ∙ ap (λ (x : ℕ). verdict o (living_in homes x) j) (sym (at_home h l away))
           ∙ known.passing j (line_now.within h l) (placed_there j (lived h l away))
 
-      pub before : KnownBefore rows own' count newcomer lasts worsts
+      pub before : KnownBefore rows own' count newcomer results
       before =
           record {
             apart = one_place o limits (living_in homes' k) (home_at homes') own' count line_now;
@@ -269,15 +270,15 @@ module _ (o : Order) (limits : WithinLimits o) (homes : Homes) (places : length 
       answer_is passes e = e ∙ same_test (every (passes_at rows count) count) (accepts o homes task k) answer_true true_answer
 
       -- after it, where all pass
-      module _ (lasts' worsts' : List ℕ) (after : KnownAfter rows own' count lasts worsts lasts' worsts') where
+      module _ (results' : Results ℕ) (after : KnownAfter rows own' count results results') where
         -- of another partition's task nothing has changed
         not_there : (j : ℕ) → living_in homes' k j ≡ false → (r : ℕ) → 0 ≤ r → r < count → number_at own' r ≢ j
         not_there j out r a l e = clash (sym out ∙ ap (living_in homes' k) (sym e) ∙ line_now.members r l)
 
-        last_kept : (j : ℕ) → living_in homes' k j ≡ false → get_or lasts' j 0 ≡ get_or lasts j 0
+        last_kept : (j : ℕ) → living_in homes' k j ≡ false → get_or results'.lasts j 0 ≡ get_or results.lasts j 0
         last_kept j out = after.other_lasts j (not_there j out)
 
-        worst_kept : (j : ℕ) → living_in homes' k j ≡ false → get_or worsts' j 0 ≡ get_or worsts j 0
+        worst_kept : (j : ℕ) → living_in homes' k j ≡ false → get_or results'.worsts j 0 ≡ get_or results.worsts j 0
         worst_kept j out = after.other_worsts j (not_there j out)
 
         away_from : (j : ℕ) → living_in homes' k j ≡ false → j ≢ task
@@ -298,34 +299,34 @@ module _ (o : Order) (limits : WithinLimits o) (homes : Homes) (places : length 
         there_now j l p true m z = omega (arith, z, living_says homes' k j m, few)
         there_now j l p false m z = known.homes_there j l (was_placed j m p) (omega (arith, z, other j (away_from j m)))
 
-        near_now : (j : ℕ) → j < o.tasks → (b : Bool) → living_in homes' k j ≡ b → get_or lasts' j 0 ≤ 2_000_000
+        near_now : (j : ℕ) → j < o.tasks → (b : Bool) → living_in homes' k j ≡ b → get_or results'.lasts j 0 ≤ 2_000_000
         near_now j l true m =
             let place = place_of o (living_in homes' k) (number_at own') count ranked j l m in
-            subst (λ (x : ℕ). get_or lasts' x 0 ≤ 2_000_000) place.2 (after.bounds.near place.0 place.1)
+            subst (λ (x : ℕ). get_or results'.lasts x 0 ≤ 2_000_000) place.2 (after.bounds.near place.0 place.1)
         near_now j l false m = omega (arith, last_kept j m, known.near j l)
 
-        open_now : (j : ℕ) → j < o.tasks → is_unplaced homes' j ≡ false → (b : Bool) → living_in homes' k j ≡ b → OpenUntil o (living_in homes' (home_at homes' j)) j (get_or lasts' j 0)
+        open_now : (j : ℕ) → j < o.tasks → is_unplaced homes' j ≡ false → (b : Bool) → living_in homes' k j ≡ b → OpenUntil o (living_in homes' (home_at homes' j)) j (get_or results'.lasts j 0)
         open_now j l p true m =
             let place = place_of o (living_in homes' k) (number_at own') count ranked j l m in
             let r = place.0 in
-            subst (λ (h : ℕ). OpenUntil o (living_in homes' h) j (get_or lasts' j 0)) (sym (living_says homes' k j m))
-            (subst (λ (x : ℕ). OpenUntil o (living_in homes' k) x (get_or lasts' x 0)) place.2 (rows_open r (of_rank own' lasts' r) place.1 (after.bounds.unmet r place.1)))
+            subst (λ (h : ℕ). OpenUntil o (living_in homes' h) j (get_or results'.lasts j 0)) (sym (living_says homes' k j m))
+            (subst (λ (x : ℕ). OpenUntil o (living_in homes' k) x (get_or results'.lasts x 0)) place.2 (rows_open r (of_rank own' results'.lasts r) place.1 (after.bounds.unmet r place.1)))
         open_now j l p false m =
             let was = was_placed j m p in
             subst (OpenUntil o (living_in homes' (home_at homes' j)) j) (sym (last_kept j m))
-            (open_more o (living_in homes (home_at homes j)) (living_in homes' (home_at homes' j)) (λ x lx e. same_members j (known.homes_there j l was) m x lx ∙ e) j (get_or lasts j 0) (known.unclosed j l was))
+            (open_more o (living_in homes (home_at homes j)) (living_in homes' (home_at homes' j)) (λ x lx e. same_members j (known.homes_there j l was) m x lx ∙ e) j (get_or results.lasts j 0) (known.unclosed j l was))
 
-        passing_now : (j : ℕ) → j < o.tasks → is_unplaced homes' j ≡ false → (b : Bool) → living_in homes' k j ≡ b → verdict o (living_in homes' (home_at homes' j)) j ≡ Ok (get_or worsts' j 0)
+        passing_now : (j : ℕ) → j < o.tasks → is_unplaced homes' j ≡ false → (b : Bool) → living_in homes' k j ≡ b → verdict o (living_in homes' (home_at homes' j)) j ≡ Ok (get_or results'.worsts j 0)
         passing_now j l p true m =
             let place = place_of o (living_in homes' k) (number_at own') count ranked j l m in
             let r = place.0 in
             ap (λ (h : ℕ). verdict o (living_in homes' h) j) (living_says homes' k j m)
-            ∙ subst (λ (x : ℕ). verdict o (living_in homes' k) x ≡ Ok (get_or worsts' x 0)) place.2 (sym (verdict_there r place.1) ∙ after.stand r place.1)
+            ∙ subst (λ (x : ℕ). verdict o (living_in homes' k) x ≡ Ok (get_or results'.worsts x 0)) place.2 (sym (verdict_there r place.1) ∙ after.stand r place.1)
         passing_now j l p false m =
             let was = was_placed j m p in
             verdict_same o (living_in homes' (home_at homes' j)) (living_in homes (home_at homes j)) j (same_members j (known.homes_there j l was) m) ∙ known.passing j l was ∙ ap Ok (sym (worst_kept j m))
 
-        pub known_now : Known o homes' lasts' worsts'
+        pub known_now : Known o homes' results'
         known_now =
             record {
               last_places = after.bounds.places;

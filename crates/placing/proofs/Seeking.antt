@@ -54,7 +54,7 @@ module _ (table : Rows) (before : Line) (task : ℕ) where
           record {
             answer = sym (first_found (accepts so.order so.homes task) opened partition (record { below = l; holds = (is so).takes t; earlier = was.none so }));
             same_line = (is so).same_line;
-            taken = λ k f. subst (λ (x : ℕ). Known so.order (set so.homes task (Some x)) after.lasts after.worsts) (at_one partition k f) ((is so).taken t);
+            taken = λ k f. subst (λ (x : ℕ). Known so.order (set so.homes task (Some x)) after.results) (at_one partition k f) ((is so).taken t);
             refused = λ f. absurd (cc f);
           }
 

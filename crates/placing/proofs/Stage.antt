@@ -1,6 +1,6 @@
 -- The line and the rows that a trial makes, and what its answer says.
 use Rattle.std.specs.Prelude.{Ok, Err}
-use mathlib.Core.Path.{◌≡◌, refl, sym, ap, ap₂, ◌∙◌, subst}
+use mathlib.Core.Path.{◌≡◌, refl, sym, ap, ◌∙◌, subst}
 use mathlib.Core.Bool.{Bool, true, false}
 use mathlib.Core.List.{List}
 use Prim.Native.Nat.{ℕ, ◌+◌, ◌-◌, ◌<◌}
@@ -13,6 +13,7 @@ use Rattle.demand.specs.Priority.{deadline_of}
 use Rattle.asked.specs.declared.rows.Rows.{Rows}
 use Rattle.asked.specs.Rows.{RowsFit}
 use Rattle.trial.specs.Known.{KnownBefore, TriedAs}
+use Rattle.trial.specs.declared.Results.{Results}
 use Rattle.roster.specs.Keys.{key_of, home_in, key_at, lives_in, run_from, spot_for, with_key}
 use Rattle.roster.specs.Rows.{RowsInLine}
 use Rattle.roster.specs.Lined.{part_size}
@@ -30,11 +31,8 @@ module _ (table : Rows) (line : Line) (first key : ℕ) (so : TryingIn table lin
   abbrev placed : ℕ
   placed = line.placed
 
-  abbrev lasts : List ℕ
-  lasts = line.lasts
-
-  abbrev worsts : List ℕ
-  worsts = line.worsts
+  abbrev results : Results ℕ
+  results = line.results
 
   abbrev o : Order
   o = so.trying.order
@@ -76,48 +74,48 @@ module _ (table : Rows) (line : Line) (first key : ℕ) (so : TryingIn table lin
     newcomer_at : newcomer ≡ spot_for (key_of k (deadline_of o i) i) own₁ (part_size keys placed first k)
     newcomer_at = spot ∙ ap (spot_for key own₁) counted ∙ ap (λ (x : ℕ). spot_for x own₁ (part_size keys placed first k)) so.key_is
 
-    pub ready : (newcomer < size + 1) × RowsFit rows (size + 1) × KnownBefore rows own₂ (size + 1) newcomer lasts worsts
+    pub ready : (newcomer < size + 1) × RowsFit rows (size + 1) × KnownBefore rows own₂ (size + 1) newcomer results
     ready =
         let t = so.trying in
         rw (newcomer_at, counted) (
           newcomer_in o t.limits t.homes t.places i k t.known_task t.waits so.few keys placed first t.in_line so.members own₁ own₂ rows table copied' put' size_small t.rows filled',
           fit o t.limits t.homes t.places i k t.known_task t.waits so.few keys placed first t.in_line so.members own₁ own₂ rows table copied' put' size_small t.rows filled',
-          before o t.limits t.homes t.places i k t.known_task t.waits so.few keys placed first t.in_line so.members own₁ own₂ rows table copied' put' size_small t.rows filled' lasts worsts t.known,
+          before o t.limits t.homes t.places i k t.known_task t.waits so.few keys placed first t.in_line so.members own₁ own₂ rows table copied' put' size_small t.rows filled' results t.known,
         )
 
     -- the line with what the trial found
-    abbrev tested : (lasts' worsts' : List ℕ) → Line
-    tested lasts' worsts' = record { keys = keys; placed = placed; lasts = lasts'; worsts = worsts' }
+    abbrev tested : (results' : Results ℕ) → Line
+    tested results' = record { keys = keys; placed = placed; results = results' }
 
-    answer_of : (passes : Bool) (lasts' worsts' : List ℕ) → TriedAs rows own₂ (size + 1) lasts worsts passes lasts' worsts' → passes ≡ accepts o so.trying.homes i k
-    answer_of passes lasts' worsts' is =
+    answer_of : (passes : Bool) (results' : Results ℕ) → TriedAs rows own₂ (size + 1) results passes results' → passes ≡ accepts o so.trying.homes i k
+    answer_of passes results' is =
         let t = so.trying in
-        let is' = subst (λ (s : ℕ). TriedAs rows own₂ (s + 1) lasts worsts passes lasts' worsts') counted is in
-        answer_is o t.limits t.homes t.places i k t.known_task t.waits so.few keys placed first t.in_line so.members own₁ own₂ rows table copied' put' size_small t.rows filled' lasts worsts t.known passes is'.all_pass
+        let is' = subst (λ (s : ℕ). TriedAs rows own₂ (s + 1) results passes results') counted is in
+        answer_is o t.limits t.homes t.places i k t.known_task t.waits so.few keys placed first t.in_line so.members own₁ own₂ rows table copied' put' size_small t.rows filled' results t.known passes is'.all_pass
 
     -- the trial passes, or it does not
-    pub told_takes : (passes : Bool) (lasts' worsts' : List ℕ) → TriedAs rows own₂ (size + 1) lasts worsts passes lasts' worsts' → passes ≡ true
-        → TriedIn table line first key so (Ok tt) (tested lasts' worsts')
-    told_takes passes lasts' worsts' is pass =
+    pub told_takes : (passes : Bool) (results' : Results ℕ) → TriedAs rows own₂ (size + 1) results passes results' → passes ≡ true
+        → TriedIn table line first key so (Ok tt) (tested results')
+    told_takes passes results' is pass =
         let t = so.trying in
-        let is' = subst (λ (s : ℕ). TriedAs rows own₂ (s + 1) lasts worsts passes lasts' worsts') counted is in
+        let is' = subst (λ (s : ℕ). TriedAs rows own₂ (s + 1) results passes results') counted is in
         record {
           same_line = (refl, refl);
-          takes = λ e. sym (answer_of passes lasts' worsts' is) ∙ pass;
-          taken = λ e. known_now o t.limits t.homes t.places i k t.known_task t.waits so.few keys placed first t.in_line so.members own₁ own₂ rows table copied' put' size_small t.rows filled' lasts worsts t.known lasts' worsts' (is'.taken pass);
+          takes = λ e. sym (answer_of passes results' is) ∙ pass;
+          taken = λ e. known_now o t.limits t.homes t.places i k t.known_task t.waits so.few keys placed first t.in_line so.members own₁ own₂ rows table copied' put' size_small t.rows filled' results t.known results' (is'.taken pass);
           refuses = λ n e. absurd (cc e);
           refused = λ n e. absurd (cc e);
           members = λ n e. absurd (cc e);
         }
 
-    pub told_refuses : (passes : Bool) (lasts' worsts' : List ℕ) → TriedAs rows own₂ (size + 1) lasts worsts passes lasts' worsts' → passes ≡ false
-        → TriedIn table line first key so (Err size) (tested lasts' worsts')
-    told_refuses passes lasts' worsts' is fail =
+    pub told_refuses : (passes : Bool) (results' : Results ℕ) → TriedAs rows own₂ (size + 1) results passes results' → passes ≡ false
+        → TriedIn table line first key so (Err size) (tested results')
+    told_refuses passes results' is fail =
         record {
           same_line = (refl, refl);
           takes = λ e. absurd (cc e);
           taken = λ e. absurd (cc e);
-          refuses = λ n e. sym (answer_of passes lasts' worsts' is) ∙ fail;
-          refused = λ n e. ap₂ tested (is.refused fail).0 (is.refused fail).1;
+          refuses = λ n e. sym (answer_of passes results' is) ∙ fail;
+          refused = λ n e. ap tested (is.refused fail);
           members = λ n e. (let same : size ≡ n = cc e in sym same ∙ counted);
         }

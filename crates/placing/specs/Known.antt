@@ -15,6 +15,8 @@ use Rattle.roster.specs.Rows.{RowsByNumber}
 use Rattle.roster.specs.Lined.{Lined, PartFrom, part_size}
 use Rattle.turns.specs.Turns.{Homes, unplaced, home_at, is_unplaced}
 use Rattle.fitting.specs.Steps.{living_in, accepts}
+use Rattle.trial.specs.Known.{no_results}
+use Rattle.trial.specs.declared.Results.{Results}
 use Rattle.placing.specs.declared.Line.{Line}
 
 -- no window of member i closes before a tick
@@ -22,14 +24,14 @@ abbrev pub OpenUntil : Order → Members → (i last : ℕ) → Type 0
 OpenUntil o member i last = UnmetBelow (λ w. higher_work o member i w + work_by (task_of o i) w) (blocking o member i) last
 
 -- of each placed task a tick before which its window does not close, and its worst response; of a waiting one no tick
-pub record Known (o : Order) (homes : Homes) (lasts worsts : List ℕ) : Type 0 where
-  pub last_places : length lasts ≡ most_tasks
-  pub worst_places : length worsts ≡ most_tasks
+pub record Known (o : Order) (homes : Homes) (results : Results ℕ) : Type 0 where
+  pub last_places : length results.lasts ≡ most_tasks
+  pub worst_places : length results.worsts ≡ most_tasks
   pub homes_there : (j : ℕ) → j < o.tasks → is_unplaced homes j ≡ false → home_at homes j ≡ unplaced → ⊥
-  pub waiting : (j : ℕ) → j < o.tasks → is_unplaced homes j ≡ true → get_or lasts j 0 ≡ 0
-  pub near : (j : ℕ) → j < o.tasks → get_or lasts j 0 ≤ 2_000_000
-  pub unclosed : (j : ℕ) → j < o.tasks → is_unplaced homes j ≡ false → OpenUntil o (living_in homes (home_at homes j)) j (get_or lasts j 0)
-  pub passing : (j : ℕ) → j < o.tasks → is_unplaced homes j ≡ false → verdict o (living_in homes (home_at homes j)) j ≡ Ok (get_or worsts j 0)
+  pub waiting : (j : ℕ) → j < o.tasks → is_unplaced homes j ≡ true → get_or results.lasts j 0 ≡ 0
+  pub near : (j : ℕ) → j < o.tasks → get_or results.lasts j 0 ≤ 2_000_000
+  pub unclosed : (j : ℕ) → j < o.tasks → is_unplaced homes j ≡ false → OpenUntil o (living_in homes (home_at homes j)) j (get_or results.lasts j 0)
+  pub passing : (j : ℕ) → j < o.tasks → is_unplaced homes j ≡ false → verdict o (living_in homes (home_at homes j)) j ≡ Ok (get_or results.worsts j 0)
 
 -- the placed tasks stand in line
 abbrev pub InLine : Order → (homes : Homes) (keys : List ℕ) → (placed : ℕ) → Type 0
@@ -37,11 +39,11 @@ InLine o homes keys placed = Lined o (λ j. not (is_unplaced homes j)) (home_at 
 
 -- nobody is placed
 abbrev pub no_line : Line
-no_line = record { keys = replicate most_tasks 0; placed = 0; lasts = replicate most_tasks 0; worsts = replicate most_tasks 0 }
+no_line = record { keys = replicate most_tasks 0; placed = 0; results = no_results 0 }
 
 -- one more in line, by its key
 abbrev pub seated : Line → (key : ℕ) → Line
-seated line key = record { keys = overlaid (with_key key line.keys line.placed) (line.placed + 1) line.keys; placed = line.placed + 1; lasts = line.lasts; worsts = line.worsts }
+seated line key = record { keys = overlaid (with_key key line.keys line.placed) (line.placed + 1) line.keys; placed = line.placed + 1; results = line.results }
 
 -- a waiting task is to be tried
 pub record Trying (table : Rows) (line : Line) (task : ℕ) : Type 0 where
@@ -54,7 +56,7 @@ pub record Trying (table : Rows) (line : Line) (task : ℕ) : Type 0 where
   pub waits : is_unplaced homes task ≡ true
   pub room : line.placed < most_tasks
   pub in_line : InLine order homes line.keys line.placed
-  pub known : Known order homes line.lasts line.worsts
+  pub known : Known order homes line.results
 
 -- in partition k, by its key there, beside the members from a place of the line on
 pub record TryingIn (table : Rows) (line : Line) (first key : ℕ) : Type 0 where
@@ -69,7 +71,7 @@ pub record TryingIn (table : Rows) (line : Line) (first key : ℕ) : Type 0 wher
 pub record TriedIn (table : Rows) (line : Line) (first key : ℕ) (so : TryingIn table line first key) (r : Result (Unit {0}) ℕ) (after : Line) : Type 0 where
   pub same_line : (after.keys ≡ line.keys) × (after.placed ≡ line.placed)
   pub takes : r ≡ Ok tt → accepts so.trying.order so.trying.homes so.task so.partition ≡ true
-  pub taken : r ≡ Ok tt → Known so.trying.order (set so.trying.homes so.task (Some so.partition)) after.lasts after.worsts
+  pub taken : r ≡ Ok tt → Known so.trying.order (set so.trying.homes so.task (Some so.partition)) after.results
   pub refuses : (size : ℕ) → r ≡ Err size → accepts so.trying.order so.trying.homes so.task so.partition ≡ false
   pub refused : (size : ℕ) → r ≡ Err size → after ≡ line
   pub members : (size : ℕ) → r ≡ Err size → size ≡ part_size line.keys line.placed first so.partition
@@ -78,5 +80,5 @@ pub record TriedIn (table : Rows) (line : Line) (first key : ℕ) (so : TryingIn
 pub record Lowest (table : Rows) (line : Line) (task : ℕ) (so : Trying table line task) (opened : ℕ) (r : Option ℕ) (after : Line) : Type 0 where
   pub answer : r ≡ first_of (accepts so.order so.homes task) 0 opened
   pub same_line : (after.keys ≡ line.keys) × (after.placed ≡ line.placed)
-  pub taken : (k : ℕ) → r ≡ Some k → Known so.order (set so.homes task (Some k)) after.lasts after.worsts
+  pub taken : (k : ℕ) → r ≡ Some k → Known so.order (set so.homes task (Some k)) after.results
   pub refused : r ≡ None → after ≡ line

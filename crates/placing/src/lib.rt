@@ -8,15 +8,14 @@ ghost use Rattle.placing.specs.Known.{no_line, seated, Trying, TryingIn, TriedIn
 
 use asked::Rows;
 use model::Order;
+use trial::Results;
 
-// The placed tasks: their keys in line, how many they are, and of each by its number a tick before which its window does
-// not close, and its worst response.
+// The placed tasks: their keys in line, how many they are, and by number what their tests gave.
 #[derive(Clone, Copy)]
 pub struct Line {
     pub keys: [u32; Order::MOST_TASKS],
     pub placed: usize,
-    pub lasts: [u32; Order::MOST_TASKS],
-    pub worsts: [u32; Order::MOST_TASKS],
+    pub results: Results<u32>,
 }
 
 impl Line {
@@ -24,12 +23,10 @@ impl Line {
     pub fn empty() -> Self
         ensures { result ≡ no_line }
     {
-        let none = [0; Order::MOST_TASKS];
         Self {
-            keys: none,
+            keys: [0; Order::MOST_TASKS],
             placed: 0,
-            lasts: none,
-            worsts: none,
+            results: Results::none(0),
         }
     }
 
@@ -50,14 +47,7 @@ impl Line {
         let newcomer = roster::put_in(&mut own, size, key);
         let mut rows = Rows::zero();
         roster::fill_rows(table, &own, size + 1, &mut rows);
-        if trial::tries(
-            &rows,
-            &own,
-            size + 1,
-            newcomer,
-            &mut self.lasts,
-            &mut self.worsts,
-        ) {
+        if trial::tries(&rows, &own, size + 1, newcomer, &mut self.results) {
             Ok(())
         } else {
             Err(size)

@@ -21,8 +21,9 @@ use Rattle.verdict.specs.declared.Tested.{Tested}
 use Rattle.verdict.specs.Tested.{TestedAs}
 use Rattle.verdict.proofs.Told.{passes_told, response_told, fails_told}
 use Rattle.roster.specs.Keys.{number_at}
-use Rattle.trial.specs.Known.{of_rank, Apart, Bounds, passes_at, verdict_at, OnlyRanks, TestedFrom}
+use Rattle.trial.specs.Known.{of_rank, Apart, Bounds, passes_at, verdict_at, OnlyRanks, noted, TestedFrom}
 use Rattle.asked.specs.declared.rows.Rows.{Rows}
+use Rattle.trial.specs.declared.Results.{Results}
 
 pub passes_is : (v : Verdict) → does_pass v ≡ true → v ≡ Ok (response_of v)
 passes_is (Ok worst) p = refl
@@ -71,8 +72,8 @@ bounds_put rows keys count lasts r last apart inside near unmet known =
     own s same = subst (λ (x : ℕ). UnmetBelow (asked_by rows (x + 1)) (blocking_in rows count x) (of_rank keys (set lasts (number_at keys r) last) x)) (sym same)
         (λ w k. unmet w (omega (arith, k, put_own keys lasts r last known.places)))
 
-module _ (rows : Rows) (keys : List ℕ) (count from : ℕ) (apart : Apart keys count) (lasts₀ worsts₀ : List ℕ) where
-  pub tested_none : Bounds rows keys count lasts₀ → length worsts₀ ≡ most_tasks → TestedFrom rows keys count from from lasts₀ worsts₀ true lasts₀ worsts₀
+module _ (rows : Rows) (keys : List ℕ) (count from : ℕ) (apart : Apart keys count) (results₀ : Results ℕ) where
+  pub tested_none : Bounds rows keys count results₀.lasts → length results₀.worsts ≡ most_tasks → TestedFrom rows keys count from from results₀ true results₀
   tested_none known places =
       let none : from - from ≡ 0 = omega arith in
       record {
@@ -84,30 +85,30 @@ module _ (rows : Rows) (keys : List ℕ) (count from : ℕ) (apart : Apart keys 
         other_worsts = λ j outside. refl;
       }
 
-  module _ (rank : ℕ) (lasts worsts : List ℕ) (le : from ≤ rank) (inside : rank < count) (known : TestedFrom rows keys count from rank lasts₀ worsts₀ true lasts worsts)
+  module _ (rank : ℕ) (results : Results ℕ) (le : from ≤ rank) (inside : rank < count) (known : TestedFrom rows keys count from rank results₀ true results)
       (t : Tested) (is : TestedAs rows rank (blocking_in rows count rank) t) where
     pub tested_more : (worst : ℕ) → t.worst ≡ Some worst →
-        TestedFrom rows keys count from (rank + 1) lasts₀ worsts₀ true (set lasts (number_at keys rank) t.last) (set worsts (number_at keys rank) worst)
+        TestedFrom rows keys count from (rank + 1) results₀ true (noted results (number_at keys rank) t.last worst)
     tested_more worst p =
         let f : ℕ → Bool = λ x. passes_at rows count (from + x) in
         let more : rank + 1 - from ≡ rank - from + 1 = omega arith in
         let here : from + (rank - from) ≡ rank = omega arith in
         record {
           all_pass = sym (ap (every f) more ∙ every_more f (rank - from) (sym known.all_pass) (ap (passes_at rows count) here ∙ passes_told (verdict_at rows count rank) worst (sym is.worst ∙ p)));
-          bounds = bounds_put rows keys count lasts rank t.last apart inside is.near is.unmet known.bounds;
-          places = length-set worsts (number_at keys rank) worst ∙ known.places;
+          bounds = bounds_put rows keys count results.lasts rank t.last apart inside is.near is.unmet known.bounds;
+          places = length-set results.worsts (number_at keys rank) worst ∙ known.places;
           responses = λ q r a b. elim (ℕ_discrete r rank) [
             | yes same ↦ own r same
-            | no other ↦ put_others keys worsts rank worst count r apart inside (omega (arith, inside, b, other)) other ∙ known.responses refl r a (omega (arith, b, other))
+            | no other ↦ put_others keys results.worsts rank worst count r apart inside (omega (arith, inside, b, other)) other ∙ known.responses refl r a (omega (arith, b, other))
           ];
-          other_lasts = only-put keys lasts rank t.last from lasts₀ le known.other_lasts;
-          other_worsts = only-put keys worsts rank worst from worsts₀ le known.other_worsts;
+          other_lasts = only-put keys results.lasts rank t.last from results₀.lasts le known.other_lasts;
+          other_worsts = only-put keys results.worsts rank worst from results₀.worsts le known.other_worsts;
         }
       where
-        own : (r : ℕ) → r ≡ rank → of_rank keys (set worsts (number_at keys rank) worst) r ≡ response_of (verdict_at rows count r)
-        own r same = ap (of_rank keys (set worsts (number_at keys rank) worst)) same ∙ put_own keys worsts rank worst known.places ∙ response_told (verdict_at rows count rank) worst (sym is.worst ∙ p) ∙ ap (λ (x : ℕ). response_of (verdict_at rows count x)) (sym same)
+        own : (r : ℕ) → r ≡ rank → of_rank keys (set results.worsts (number_at keys rank) worst) r ≡ response_of (verdict_at rows count r)
+        own r same = ap (of_rank keys (set results.worsts (number_at keys rank) worst)) same ∙ put_own keys results.worsts rank worst known.places ∙ response_told (verdict_at rows count rank) worst (sym is.worst ∙ p) ∙ ap (λ (x : ℕ). response_of (verdict_at rows count x)) (sym same)
 
-    pub tested_stops : (to : ℕ) → rank < to → t.worst ≡ None → TestedFrom rows keys count from to lasts₀ worsts₀ false lasts worsts
+    pub tested_stops : (to : ℕ) → rank < to → t.worst ≡ None → TestedFrom rows keys count from to results₀ false results
     tested_stops to before p =
         let f : ℕ → Bool = λ x. passes_at rows count (from + x) in
         let here : from + (rank - from) ≡ rank = omega arith in
@@ -116,6 +117,6 @@ module _ (rows : Rows) (keys : List ℕ) (count from : ℕ) (apart : Apart keys 
           bounds = known.bounds;
           places = known.places;
           responses = λ q. clash q;
-          other_lasts = only_wider keys from rank from to lasts₀ lasts (omega arith) (omega (arith, before)) known.other_lasts;
-          other_worsts = only_wider keys from rank from to worsts₀ worsts (omega arith) (omega (arith, before)) known.other_worsts;
+          other_lasts = only_wider keys from rank from to results₀.lasts results.lasts (omega arith) (omega (arith, before)) known.other_lasts;
+          other_worsts = only_wider keys from rank from to results₀.worsts results.worsts (omega arith) (omega (arith, before)) known.other_worsts;
         }

@@ -7,11 +7,39 @@ ghost use Rattle.model.specs.Limits.{most_tasks};
 ghost use Rattle.asked.specs.Rows.{RowsFit, cost_at, asked_by, blocking_in};
 ghost use Rattle.asked.specs.Met.{UnmetBelow};
 ghost use Rattle.verdict.specs.Tested.{TestedAs};
-ghost use Rattle.trial.specs.Known.{Apart, Bounds, TestedFrom, Shielded, OthersTested, KnownBefore, TriedAs};
+ghost use Rattle.trial.specs.Known.{no_results, noted, Apart, Bounds, TestedFrom, Shielded, OthersTested, KnownBefore, TriedAs};
 
 use asked::Rows;
 use model::Order;
 use verdict::Tested;
+
+// What the tests of the tasks gave, by number: a tick before which a task's window does not close, and its worst response.
+#[derive(Clone, Copy)]
+pub struct Results<Worst> {
+    pub lasts: [u32; Order::MOST_TASKS],
+    pub worsts: [Worst; Order::MOST_TASKS],
+}
+
+impl<Worst: Copy> Results<Worst> {
+    // Before the first test, with the same worst response for all.
+    pub fn none(worst: Worst) -> Self
+        ensures { result ≡ no_results worst }
+    {
+        Self {
+            lasts: [0; Order::MOST_TASKS],
+            worsts: [worst; Order::MOST_TASKS],
+        }
+    }
+
+    // What the test of a task gave.
+    pub fn note(&mut self, number: usize, last: u32, worst: Worst)
+        requires { number < most_tasks }
+        ensures { self.new ≡ noted self.old number last worst }
+    {
+        self.lasts[number] = last;
+        self.worsts[number] = worst;
+    }
+}
 
 // The largest cost from a rank on.
 fn longest(rows: &Rows, from: usize, count: usize) -> u32
@@ -79,20 +107,18 @@ pub fn test_from(
     count: usize,
     from: usize,
     to: usize,
-    lasts: &mut [u32; Order::MOST_TASKS],
-    worsts: &mut [u32; Order::MOST_TASKS],
+    results: &mut Results<u32>,
 ) -> bool
-    requires { (from ≤ to) × (to ≤ count) × RowsFit rows.now count × Apart keys.now count × Bounds rows.now keys.now count lasts.old × (length worsts.old ≡ most_tasks) }
-    ensures { TestedFrom rows.now keys.now count from to lasts.old worsts.old result lasts.new worsts.new }
+    requires { (from ≤ to) × (to ≤ count) × RowsFit rows.now count × Apart keys.now count × Bounds rows.now keys.now count results.old.lasts × (length results.old.worsts ≡ most_tasks) }
+    ensures { TestedFrom rows.now keys.now count from to results.old result results.new }
 {
     for rank in from..to {
-        let tested = test_rank(rows, keys, count, rank, lasts);
+        let tested = test_rank(rows, keys, count, rank, &results.lasts);
         let Some(worst) = tested.worst else {
             return false;
         };
         let number = roster::number_in(keys[rank]);
-        lasts[number] = tested.last;
-        worsts[number] = worst;
+        results.note(number, tested.last, worst);
     }
     true
 }
@@ -119,15 +145,14 @@ fn test_others(
     keys: &[u32; Order::MOST_TASKS],
     count: usize,
     newcomer: usize,
-    lasts: &mut [u32; Order::MOST_TASKS],
-    worsts: &mut [u32; Order::MOST_TASKS],
+    results: &mut Results<u32>,
 ) -> bool
-    requires { (newcomer < count) × RowsFit rows.now count × Apart keys.now count × Bounds rows.now keys.now count lasts.old × (length worsts.old ≡ most_tasks) }
-    ensures { OthersTested rows.now keys.now count newcomer lasts.old worsts.old result lasts.new worsts.new }
+    requires { (newcomer < count) × RowsFit rows.now count × Apart keys.now count × Bounds rows.now keys.now count results.old.lasts × (length results.old.worsts ≡ most_tasks) }
+    ensures { OthersTested rows.now keys.now count newcomer results.old result results.new }
 {
     let first = first_blocked(rows, count, newcomer);
-    test_from(rows, keys, count, first, newcomer, lasts, worsts)
-        && test_from(rows, keys, count, newcomer + 1, count, lasts, worsts)
+    test_from(rows, keys, count, first, newcomer, results)
+        && test_from(rows, keys, count, newcomer + 1, count, results)
 }
 
 // A newcomer among the members: it is tested first, then the others that it touches.
@@ -136,26 +161,22 @@ fn test_touched(
     keys: &[u32; Order::MOST_TASKS],
     count: usize,
     newcomer: usize,
-    lasts: &mut [u32; Order::MOST_TASKS],
-    worsts: &mut [u32; Order::MOST_TASKS],
+    results: &mut Results<u32>,
 ) -> bool
-    requires { (newcomer < count) × RowsFit rows.now count × KnownBefore rows.now keys.now count newcomer lasts.old worsts.old }
-    ensures { TriedAs rows.now keys.now count lasts.old worsts.old result lasts.new worsts.new }
+    requires { (newcomer < count) × RowsFit rows.now count × KnownBefore rows.now keys.now count newcomer results.old }
+    ensures { TriedAs rows.now keys.now count results.old result results.new }
 {
-    let tested = test_rank(rows, keys, count, newcomer, lasts);
+    let tested = test_rank(rows, keys, count, newcomer, &results.lasts);
     let Some(worst) = tested.worst else {
         return false;
     };
     let number = roster::number_in(keys[newcomer]);
-    let mut new_lasts = *lasts;
-    let mut new_worsts = *worsts;
-    new_lasts[number] = tested.last;
-    new_worsts[number] = worst;
-    if !test_others(rows, keys, count, newcomer, &mut new_lasts, &mut new_worsts) {
+    let mut touched = *results;
+    touched.note(number, tested.last, worst);
+    if !test_others(rows, keys, count, newcomer, &mut touched) {
         return false;
     }
-    *lasts = new_lasts;
-    *worsts = new_worsts;
+    *results = touched;
     true
 }
 
@@ -165,11 +186,10 @@ pub fn tries(
     keys: &[u32; Order::MOST_TASKS],
     count: usize,
     newcomer: usize,
-    lasts: &mut [u32; Order::MOST_TASKS],
-    worsts: &mut [u32; Order::MOST_TASKS],
+    results: &mut Results<u32>,
 ) -> bool
-    requires { (newcomer < count) × RowsFit rows.now count × KnownBefore rows.now keys.now count newcomer lasts.old worsts.old }
-    ensures { TriedAs rows.now keys.now count lasts.old worsts.old result lasts.new worsts.new }
+    requires { (newcomer < count) × RowsFit rows.now count × KnownBefore rows.now keys.now count newcomer results.old }
+    ensures { TriedAs rows.now keys.now count results.old result results.new }
 {
-    !verdict::overfull(rows, count, 0) && test_touched(rows, keys, count, newcomer, lasts, worsts)
+    !verdict::overfull(rows, count, 0) && test_touched(rows, keys, count, newcomer, results)
 }

@@ -1,11 +1,16 @@
 use borrow.Author.Rules.{rules}
 use native.Mathlib.Omega.{arith}
+use mathlib.Core.Path.{sym, subst}
+use Rattle.model.specs.Limits.{most_tasks}
+use Rattle.inspect_tests.specs.Results.{TestedBefore}
 use Rattle.inspect_tests.proofs.Steps.{before_all, after_all}
 use Rattle.inspect_tests.proofs.Parts.{few_tasks}
 use Rattle.inspect_tests.proofs.test_all.Goals as goal
 
 pub loop-first-init : goal.loop-first-init
-loop-first-init c = before_all c.args.table.now c.args.keys.now c.args.tasks
+loop-first-init c =
+    let a = c.args in
+    subst (TestedBefore a.table.now a.keys.now a.tasks 0 most_tasks) (sym c.none-results.ensures) (before_all a.table.now a.keys.now a.tasks)
 
 pub test_part-part-requires : goal.test_part-part-requires
 test_part-part-requires c =
@@ -28,4 +33,4 @@ loop-first-preserved c = c.test_part-part.ensures.1
 pub returns : goal.returns
 returns c =
     let a = c.args in
-    after_all a.table.now a.keys.now a.tasks c.loop-first.first c.loop-first.lowest c.loop-first.lasts c.loop-first.worsts c.loop-first-test.false c.loop-first.invariant
+    after_all a.table.now a.keys.now a.tasks c.loop-first.first c.loop-first.lowest c.loop-first.results c.loop-first-test.false c.loop-first.invariant

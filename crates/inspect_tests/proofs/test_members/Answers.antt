@@ -1,5 +1,6 @@
-use Rattle.std.proofs.Common.{◌≡◌, ℕ, ◌+◌, set, sym, ap, ◌∙◌, subst, arith}
+use Rattle.std.proofs.Common.{◌≡◌, ℕ, ◌+◌, sym, ap, ◌∙◌, subst, arith}
 use Rattle.roster.specs.Keys.{number_at}
+use Rattle.trial.specs.Known.{noted}
 use Rattle.inspect_tests.specs.Results.{lowered, TestedRanks}
 use Rattle.inspect_tests.proofs.Tested.{ranks_none, ranks_more}
 use Rattle.inspect_tests.proofs.test_members.Goals as goal
@@ -7,7 +8,7 @@ use Rattle.inspect_tests.proofs.test_members.Goals as goal
 pub loop-rank-init : goal.loop-rank-init
 loop-rank-init c =
     let a = c.args in
-    ranks_none a.rows.now a.keys.now a.count c.requires.1 a.lowest a.lasts.now a.worsts.now c.requires.2 c.requires.3 c.requires.4
+    ranks_none a.rows.now a.keys.now a.count c.requires.1 a.lowest a.results.now c.requires.2 c.requires.3 c.requires.4
 
 pub test_below-tested-requires : goal.test_below-tested-requires
 test_below-tested-requires c = (c.loop-rank-test.true, c.requires.0, c.loop-rank.invariant.bounds)
@@ -19,10 +20,12 @@ loop-rank-preserved c =
     let a = c.args in
     let loop = c.loop-rank in
     let down : c.lowered-failing.result ≡ lowered loop.failing (number_at a.keys.now loop.rank) tested.result.worst = c.lowered-failing.ensures ∙ ap (λ (n : ℕ). lowered loop.failing n tested.result.worst) number.ensures in
-    subst (λ (n : ℕ). TestedRanks a.rows.now a.keys.now a.count (loop.rank + 1) a.lowest a.lasts.now a.worsts.now c.lowered-failing.result (set loop.lasts n tested.result.last) (set loop.worsts n tested.result.worst)) (sym number.ensures)
-    (ranks_more a.rows.now a.keys.now a.count c.requires.1 a.lowest a.lasts.now a.worsts.now loop.rank loop.failing loop.lasts loop.worsts c.loop-rank-test.true loop.invariant tested.result tested.ensures c.lowered-failing.result down)
+    let now : c.note.new.self ≡ noted loop.results (number_at a.keys.now loop.rank) tested.result.last tested.result.worst =
+    c.note.ensures ∙ ap (λ (n : ℕ). noted loop.results n tested.result.last tested.result.worst) number.ensures in
+    subst (TestedRanks a.rows.now a.keys.now a.count (loop.rank + 1) a.lowest a.results.now c.lowered-failing.result) (sym now)
+    (ranks_more a.rows.now a.keys.now a.count c.requires.1 a.lowest a.results.now loop.rank loop.failing loop.results c.loop-rank-test.true loop.invariant tested.result tested.ensures c.lowered-failing.result down)
 
 pub returns : goal.returns
 returns c =
     let a = c.args in
-    subst (λ (n : ℕ). TestedRanks a.rows.now a.keys.now a.count n a.lowest a.lasts.now a.worsts.now c.loop-rank.failing c.loop-rank.lasts c.loop-rank.worsts) (omega arith) c.loop-rank.invariant
+    subst (λ (n : ℕ). TestedRanks a.rows.now a.keys.now a.count n a.lowest a.results.now c.loop-rank.failing c.loop-rank.results) (omega arith) c.loop-rank.invariant

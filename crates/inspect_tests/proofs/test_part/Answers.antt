@@ -31,10 +31,10 @@ pub test_members-failing-requires : goal.test_members-failing-requires
 test_members-failing-requires c =
     let a = c.args in
     let m = (goal.at.test_members-failing-requires c).After-members_of-size in
-    part_needs a.table.now a.keys.now a.tasks a.first a.lowest a.lasts.now a.worsts.now c.requires.1 c.requires.0 c.requires.2 _ _ c.members_of-size.result (size_is m) (copied m) c.fill_rows.ensures
+    part_needs a.table.now a.keys.now a.tasks a.first a.lowest a.results.now c.requires.1 c.requires.0 c.requires.2 _ _ c.members_of-size.result (size_is m) (copied m) c.fill_rows.ensures
 
 pub returns : goal.returns
 returns c =
     let a = c.args in
     let m = (goal.at.returns c).After-members_of-size in
-    part_gives a.table.now a.keys.now a.tasks a.first a.lowest a.lasts.now a.worsts.now c.requires.1 c.requires.0 c.requires.2 _ _ c.members_of-size.result (size_is m) _ _ _ (copied m) c.fill_rows.ensures c.test_members-failing.ensures
+    part_gives a.table.now a.keys.now a.tasks a.first a.lowest a.results.now c.requires.1 c.requires.0 c.requires.2 _ _ c.members_of-size.result (size_is m) _ _ (copied m) c.fill_rows.ensures c.test_members-failing.ensures

@@ -3,4 +3,4 @@ use Rattle.trial.specs.Known.{TestedFrom}
 use Rattle.trial.proofs.test_from.Given as goal
 
 abbrev pub invariant-loop-rank : goal.invariant-loop-rank
-invariant-loop-rank l = TestedFrom l.rows l.keys l.count l.from l.rank l.initial.lasts l.initial.worsts true l.lasts l.worsts
+invariant-loop-rank l = TestedFrom l.rows l.keys l.count l.from l.rank l.initial.results true l.results

@@ -57,7 +57,7 @@ returns-then-tries c = λ so.
     let m = c.members_of-size in
     let counted = size_is a.table.now a.self.now a.first a.key so c.home_in.result m.result c.home_in.ensures m.ensures.size in
     told_takes a.table.now a.self.now a.first a.key so m.result c.put_in-newcomer.result _ m.new.own c.put_in-newcomer.new.keys c.fill_rows.new.rows
-    counted m.ensures.copied c.put_in-newcomer.ensures.spot c.put_in-newcomer.ensures.line c.fill_rows.ensures c.tries.result _ _ c.tries.ensures c.if-tries.true
+    counted m.ensures.copied c.put_in-newcomer.ensures.spot c.put_in-newcomer.ensures.line c.fill_rows.ensures c.tries.result _ c.tries.ensures c.if-tries.true
 
 pub returns-else-tries : goal.returns-else-tries
 returns-else-tries c = λ so.
@@ -65,4 +65,4 @@ returns-else-tries c = λ so.
     let m = c.members_of-size in
     let counted = size_is a.table.now a.self.now a.first a.key so c.home_in.result m.result c.home_in.ensures m.ensures.size in
     told_refuses a.table.now a.self.now a.first a.key so m.result c.put_in-newcomer.result _ m.new.own c.put_in-newcomer.new.keys c.fill_rows.new.rows
-    counted m.ensures.copied c.put_in-newcomer.ensures.spot c.put_in-newcomer.ensures.line c.fill_rows.ensures c.tries.result _ _ c.tries.ensures c.if-tries.false
+    counted m.ensures.copied c.put_in-newcomer.ensures.spot c.put_in-newcomer.ensures.line c.fill_rows.ensures c.tries.result _ c.tries.ensures c.if-tries.false
