@@ -17,10 +17,10 @@ use Rattle.asked.specs.Met.{UnmetBelow}
 use Rattle.verdict.specs.declared.Tested.{Tested}
 use Rattle.verdict.specs.Tested.{TestedAs, worst_of}
 use Rattle.roster.specs.Keys.{number_at}
-use Rattle.trial.specs.Known.{of_rank, Apart, Bounds, noted, verdict_at}
+use Rattle.trial.specs.Known.{of_rank, Apart, Bounds, with_result, verdict_at}
 use Rattle.trial.proofs.Heads.{taken_over}
 use Rattle.trial.proofs.Testing.{only-put, bounds_put}
-use Rattle.inspect_tests.specs.Results.{last_above, TestedBelow, lowered, worst_at, OnlyWorsts, FailsAmong, TestedRanks}
+use Rattle.inspect_tests.specs.Results.{last_above, TestedBelow, lowest_failing, worst_at, OnlyWorsts, FailsAmong, TestedRanks}
 use Rattle.asked.specs.declared.rows.Rows.{Rows}
 use Rattle.trial.specs.declared.Results.{Results}
 
@@ -64,21 +64,21 @@ module _ (rows : Rows) (keys : List ℕ) (count : ℕ) (apart : Apart keys count
       record { bounds = known; places = places; lower = omega arith; fails = inl refl; none = none; responses = λ r l. absurd (omega (arith, l)); other_lasts = λ j outside. refl; other_worsts = λ j outside. refl }
 
   module _ (rank lowest : ℕ) (results : Results (Option ℕ)) (inside : rank < count) (known : TestedRanks rows keys count rank lowest₀ results₀ lowest results)
-      (t : Tested) (is : TestedBelow rows keys count rank lowest t) (lowest' : ℕ) (down : lowest' ≡ lowered lowest (number_at keys rank) t.worst) where
+      (t : Tested) (is : TestedBelow rows keys count rank lowest t) (lowest' : ℕ) (down : lowest' ≡ lowest_failing lowest (number_at keys rank) t.worst) where
     abbrev number : ℕ
     number = number_at keys rank
 
     abbrev results' : Results (Option ℕ)
-    results' = noted results number t.last t.worst
+    results' = with_result results number t.last t.worst
 
     -- where it stays, or falls to one that fails
     falls : (lowest' ≡ lowest) ⊎ ((lowest' ≡ number) × (number < lowest) × (t.worst ≡ None))
     falls = go t.worst refl
       where
         go : (w : Option ℕ) → t.worst ≡ w → (lowest' ≡ lowest) ⊎ ((lowest' ≡ number) × (number < lowest) × (t.worst ≡ None))
-        go (Some worst) e = inl (down ∙ ap (lowered lowest number) e)
+        go (Some worst) e = inl (down ∙ ap (lowest_failing lowest number) e)
         go None e =
-            let least : lowest' ≡ min lowest number = down ∙ ap (lowered lowest number) e in
+            let least : lowest' ≡ min lowest number = down ∙ ap (lowest_failing lowest number) e in
             elim (dec_lt number lowest) [
               | yes below ↦ inr (omega (arith, least, below), below, e)
               | no above ↦ inl (omega (arith, least, above))

@@ -51,9 +51,9 @@ pub record TestedBelow (rows : Rows) (keys : List ℕ) (count rank lowest : ℕ)
   pub left_out : lowest ≤ number_at keys rank → r.worst ≡ None
 
 -- the lowest number without a response, with one task more
-abbrev pub lowered : (lowest number : ℕ) → (worst : Option ℕ) → ℕ
-lowered lowest number (Some worst) = lowest
-lowered lowest number None = min lowest number
+abbrev pub lowest_failing : (lowest number : ℕ) → (worst : Option ℕ) → ℕ
+lowest_failing lowest number (Some worst) = lowest
+lowest_failing lowest number None = min lowest number
 
 -- a worst response by number, if there is one
 abbrev pub worst_at : List (Option ℕ) → (number : ℕ) → Option ℕ

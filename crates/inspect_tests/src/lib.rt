@@ -9,7 +9,7 @@ ghost use Rattle.roster.specs.Keys.{home_in, key_at, run_from};
 ghost use Rattle.trial.specs.Known.{Apart, Bounds};
 ghost use Rattle.inspect_members.specs.Line.{LineOf};
 ghost use Rattle.inspect_tests.specs.Rules.{test_rules};
-ghost use Rattle.inspect_tests.specs.Results.{SomeLineup, last_above, TestedBelow, lowered, worst_at, TestedRanks, TestedBefore, ResultsFor, FirstWrong, SomeTaskThere, TellsWindow, RanksRecorded};
+ghost use Rattle.inspect_tests.specs.Results.{SomeLineup, last_above, TestedBelow, lowest_failing, worst_at, TestedRanks, TestedBefore, ResultsFor, FirstWrong, SomeTaskThere, TellsWindow, RanksRecorded};
 
 use asked::Rows;
 use model::{Build, BuildCause, Member, Order, Refusal};
@@ -54,7 +54,7 @@ fn test_below(
 
 // The lowest number of a task that does not pass, with one task more.
 fn lowered(lowest: usize, number: usize, worst: Option<u32>) -> usize
-    ensures { result ≡ lowered lowest number worst }
+    ensures { result ≡ lowest_failing lowest number worst }
 {
     match worst {
         Some(_) => lowest,

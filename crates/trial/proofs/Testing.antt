@@ -21,7 +21,7 @@ use Rattle.verdict.specs.declared.Tested.{Tested}
 use Rattle.verdict.specs.Tested.{TestedAs}
 use Rattle.verdict.proofs.Told.{passes_told, response_told, fails_told}
 use Rattle.roster.specs.Keys.{number_at}
-use Rattle.trial.specs.Known.{of_rank, Apart, Bounds, passes_at, verdict_at, OnlyRanks, noted, TestedFrom}
+use Rattle.trial.specs.Known.{of_rank, Apart, Bounds, passes_at, verdict_at, OnlyRanks, with_result, TestedFrom}
 use Rattle.asked.specs.declared.rows.Rows.{Rows}
 use Rattle.trial.specs.declared.Results.{Results}
 
@@ -88,7 +88,7 @@ module _ (rows : Rows) (keys : List ℕ) (count from : ℕ) (apart : Apart keys 
   module _ (rank : ℕ) (results : Results ℕ) (le : from ≤ rank) (inside : rank < count) (known : TestedFrom rows keys count from rank results₀ true results)
       (t : Tested) (is : TestedAs rows rank (blocking_in rows count rank) t) where
     pub tested_more : (worst : ℕ) → t.worst ≡ Some worst →
-        TestedFrom rows keys count from (rank + 1) results₀ true (noted results (number_at keys rank) t.last worst)
+        TestedFrom rows keys count from (rank + 1) results₀ true (with_result results (number_at keys rank) t.last worst)
     tested_more worst p =
         let f : ℕ → Bool = λ x. passes_at rows count (from + x) in
         let more : rank + 1 - from ≡ rank - from + 1 = omega arith in

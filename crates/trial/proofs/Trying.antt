@@ -20,7 +20,7 @@ use Rattle.verdict.specs.Tested.{TestedAs}
 use Rattle.verdict.proofs.Full.{overfull_open, unmet_fails}
 use Rattle.verdict.proofs.Told.{passes_told, response_told, fails_told}
 use Rattle.roster.specs.Keys.{number_at}
-use Rattle.trial.specs.Known.{of_rank, Bounds, passes_at, verdict_at, OnlyRanks, noted, TestedFrom, Shielded, OthersTested, KnownBefore, TriedAs}
+use Rattle.trial.specs.Known.{of_rank, Bounds, passes_at, verdict_at, OnlyRanks, with_result, TestedFrom, Shielded, OthersTested, KnownBefore, TriedAs}
 use Rattle.trial.proofs.Testing.{passes_is, put_own, put_others, rank_kept, bounds_put}
 use Rattle.asked.specs.declared.rows.Rows.{Rows}
 use Rattle.trial.specs.declared.Results.{Results}
@@ -81,7 +81,7 @@ module _ (rows : Rows) (keys : List ℕ) (count newcomer : ℕ) (results : Resul
 module _ (rows : Rows) (keys : List ℕ) (count newcomer : ℕ) (results : Results ℕ) (inside : newcomer < count) (known : KnownBefore rows keys count newcomer results)
     (t : Tested) (is : TestedAs rows newcomer (blocking_in rows count newcomer) t) (worst : ℕ) (told : t.worst ≡ Some worst) where
   abbrev pub results_first : Results ℕ
-  results_first = noted results (number_at keys newcomer) t.last worst
+  results_first = with_result results (number_at keys newcomer) t.last worst
 
   pub bounds_first : Bounds rows keys count results_first.lasts
   bounds_first = bounds_put rows keys count results.lasts newcomer t.last known.apart inside is.near is.unmet known.bounds

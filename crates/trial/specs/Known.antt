@@ -16,8 +16,8 @@ abbrev pub no_results : {Worst : Type 0} → (worst : Worst) → Results Worst
 no_results worst = record { lasts = replicate most_tasks 0; worsts = replicate most_tasks worst }
 
 -- what the test of a task gave, by its number
-abbrev pub noted : {Worst : Type 0} → Results Worst → (number last : ℕ) → (worst : Worst) → Results Worst
-noted results number last worst = record { lasts = set results.lasts number last; worsts = set results.worsts number worst }
+abbrev pub with_result : {Worst : Type 0} → Results Worst → (number last : ℕ) → (worst : Worst) → Results Worst
+with_result results number last worst = record { lasts = set results.lasts number last; worsts = set results.worsts number worst }
 
 -- a number for the member of a rank, from a list by number
 abbrev pub of_rank : (keys : List ℕ) → List ℕ → (rank : ℕ) → ℕ

@@ -7,7 +7,7 @@ ghost use Rattle.model.specs.Limits.{most_tasks};
 ghost use Rattle.asked.specs.Rows.{RowsFit, cost_at, asked_by, blocking_in};
 ghost use Rattle.asked.specs.Met.{UnmetBelow};
 ghost use Rattle.verdict.specs.Tested.{TestedAs};
-ghost use Rattle.trial.specs.Known.{no_results, noted, Apart, Bounds, TestedFrom, Shielded, OthersTested, KnownBefore, TriedAs};
+ghost use Rattle.trial.specs.Known.{no_results, with_result, Apart, Bounds, TestedFrom, Shielded, OthersTested, KnownBefore, TriedAs};
 
 use asked::Rows;
 use model::Order;
@@ -34,7 +34,7 @@ impl<Worst: Copy> Results<Worst> {
     // What the test of a task gave.
     pub fn note(&mut self, number: usize, last: u32, worst: Worst)
         requires { number < most_tasks }
-        ensures { self.new ≡ noted self.old number last worst }
+        ensures { self.new ≡ with_result self.old number last worst }
     {
         self.lasts[number] = last;
         self.worsts[number] = worst;

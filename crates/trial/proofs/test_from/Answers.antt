@@ -1,6 +1,6 @@
 use Rattle.std.proofs.Common.{◌≡◌, ℕ, ◌+◌, true, sym, ap, ◌∙◌, subst, arith}
 use Rattle.roster.specs.Keys.{number_at}
-use Rattle.trial.specs.Known.{noted, TestedFrom}
+use Rattle.trial.specs.Known.{with_result, TestedFrom}
 use Rattle.trial.proofs.Testing.{tested_none, tested_more, tested_stops}
 use Rattle.trial.proofs.test_from.Goals as goal
 
@@ -25,8 +25,8 @@ loop-rank-preserved c =
     let loop = c.loop-rank in
     let tested = c.test_rank-tested in
     let worst = c.in-Some.worst in
-    let now : c.note.new.self ≡ noted loop.results (number_at a.keys.now loop.rank) tested.result.last worst =
-    c.note.ensures ∙ ap (λ (n : ℕ). noted loop.results n tested.result.last worst) c.number_in-number.ensures in
+    let now : c.note.new.self ≡ with_result loop.results (number_at a.keys.now loop.rank) tested.result.last worst =
+    c.note.ensures ∙ ap (λ (n : ℕ). with_result loop.results n tested.result.last worst) c.number_in-number.ensures in
     subst (TestedFrom a.rows.now a.keys.now a.count a.from (loop.rank + 1) a.results.now true) (sym now)
     (tested_more a.rows.now a.keys.now a.count a.from c.requires.3 a.results.now loop.rank loop.results (omega arith) (omega (arith, c.requires.1)) loop.invariant
     tested.result tested.ensures worst c.in-Some.is)

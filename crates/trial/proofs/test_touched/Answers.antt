@@ -2,7 +2,7 @@ use Rattle.std.proofs.Common.{◌≡◌, ℕ, length, sym, ap, ◌∙◌, subst}
 use Rattle.model.specs.Limits.{most_tasks}
 use Rattle.roster.specs.Keys.{number_at}
 use Rattle.trial.specs.declared.Results.{Results}
-use Rattle.trial.specs.Known.{Bounds, noted, OthersTested}
+use Rattle.trial.specs.Known.{Bounds, with_result, OthersTested}
 use Rattle.trial.proofs.Trying.{newcomer_fails, bounds_first, places_first, others_fail, all_stand}
 use Rattle.trial.proofs.test_touched.Goals as goal
 use Rattle.trial.proofs.test_touched.Goals.{After-note}
@@ -14,8 +14,8 @@ returns-in_default c =
     newcomer_fails a.rows.now a.keys.now a.count a.newcomer a.results.now c.requires.0 c.requires.2 tested.result tested.ensures c.in_default.is
 
 -- what is known once the newcomer's own test is noted
-first : (c : After-note) → c.note.new.self ≡ noted c.args.results.now (number_at c.args.keys.now c.args.newcomer) c.test_rank-tested.result.last c.in-Some.worst
-first c = c.note.ensures ∙ ap (λ (n : ℕ). noted c.args.results.now n c.test_rank-tested.result.last c.in-Some.worst) c.number_in-number.ensures
+first : (c : After-note) → c.note.new.self ≡ with_result c.args.results.now (number_at c.args.keys.now c.args.newcomer) c.test_rank-tested.result.last c.in-Some.worst
+first c = c.note.ensures ∙ ap (λ (n : ℕ). with_result c.args.results.now n c.test_rank-tested.result.last c.in-Some.worst) c.number_in-number.ensures
 
 pub test_others-requires : goal.test_others-requires
 test_others-requires c =
