@@ -1,4 +1,4 @@
-// "The library goes on from place to place": what a buyer typed, taken front to back.
+// What a buyer typed, taken front to back by a reader that holds the text and a place in it.
 ghost use Rattle.std.specs.Prelude.{◌≡◌, ◌+◌, ◌≤◌, ◌<◌, length, get_or, drop};
 ghost use Rattle.form.specs.Bytes.{is_mark};
 ghost use Rattle.form.specs.Numbers.{value_of, is_number};
