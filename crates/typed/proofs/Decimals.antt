@@ -29,7 +29,7 @@ module _ (text : List ℕ) (at : ℕ) where
   unfolding decimals_good decimals_length decimals_value
   none_taken m =
       let marked : is_mark (get_or typed 0 0) ≡ false = ap is_mark first_is ∙ m in
-      record { told = rw marked; valued = of_some _ _ (rw marked); few = of_some _ _ (omega arith); next_at = of_some _ _ (rw marked (omega arith)) }
+      record { told = rw marked; valued = of_some _ _ (rw marked); few = of_some _ _ (omega arith); next_at = rw marked (omega arith) }
 
   module _ (digits next : ℕ) (taken : TakesDigits (drop (at + 1) text) (at + 1) digits next) (m : is_mark (get_or text at 0) ≡ true) where
     abbrev decimals : List ℕ
@@ -52,7 +52,7 @@ module _ (text : List ℕ) (at : ℕ) where
         → TakesDecimals typed at (Some value) next
     unfolding decimals_good decimals_length decimals_value
     some_taken value told valued few =
-        record { told = sym told ∙ rw marked; valued = of_some _ _ (valued ∙ rw marked); few = of_some _ _ few; next_at = of_some _ _ (rw marked (omega (arith, places_are))) }
+        record { told = sym told ∙ rw marked; valued = of_some _ _ (valued ∙ rw marked); few = of_some _ _ few; next_at = rw marked (omega (arith, places_are)) }
 
     -- few digits are worth what they are
     module _ (n : ℕ) (many : length decimals ≡ n) (few : 10 ^ n ≤ 100) where
@@ -74,8 +74,9 @@ module _ (text : List ℕ) (at : ℕ) where
 
     -- none or more: nothing
     pub none_behind : (next - (at + 1) ≡ 1 → ⊥) → (next - (at + 1) ≡ 2 → ⊥) → TakesDecimals typed at None next
-    unfolding decimals_good
-    none_behind not-one not-two = record { told = sym (rw marked (go (within 1 2 (length decimals)) refl)); valued = of_none _; few = of_none _; next_at = of_none _ }
+    unfolding decimals_good decimals_length
+    none_behind not-one not-two =
+        record { told = sym (rw marked (go (within 1 2 (length decimals)) refl)); valued = of_none _; few = of_none _; next_at = rw marked (omega (arith, places_are)) }
       where
         go : (x : Bool) → within 1 2 (length decimals) ≡ x → x ≡ false
         go true h =

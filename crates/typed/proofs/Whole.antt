@@ -146,7 +146,7 @@ module _ (text : List ℕ) (at : ℕ) (end : FieldEnd) (digits behind : ℕ) (ta
 
     module _ (decimal : ℕ) (is-found : found ≡ Some decimal) where
       size_is : next ≡ at + length time.front
-      size_is = let e = decimals_taken.next_at decimal is-found ∙ ap (λ (r : List ℕ). behind + decimals_length r) behind_is in omega (arith, e, taken.1, time.size)
+      size_is = let e = decimals_taken.next_at ∙ ap (λ (r : List ℕ). behind + decimals_length r) behind_is in omega (arith, e, taken.1, time.size)
 
       -- the byte behind the front
       end_is : ends_at end text next ≡ ends_at end time.rest 0

@@ -27,7 +27,7 @@ pub record TakesDecimals (s : List ℕ) (at : ℕ) (taken : Option ℕ) (next : 
   pub told : is_some taken ≡ decimals_good s
   pub valued : ForSome taken (λ decimals. decimals ≡ decimals_value s)
   pub few : ForSome taken (λ decimals. decimals ≤ 99)
-  pub next_at : ForSome taken (λ decimals. next ≡ at + decimals_length s)
+  pub next_at : next ≡ at + decimals_length s
 
 -- the field that s begins with: up to a semicolon or a line feed
 unfoldable pub field_of : List ℕ → List ℕ
