@@ -1,30 +1,40 @@
 -- The line feeds of a text, counted one by one.
 use mathlib.Core.Path.{◌≡◌, refl, sym, ap, ◌∙◌}
-use mathlib.Core.Bool.{Bool, true, false, not, cond}
-use Rattle.std.specs.Prelude.{count_by}
-use Rattle.std.proofs.lemmas.Grind.{common_steps}
+use mathlib.Core.Bool.{Bool, true, false, not}
 use mathlib.Core.List.{List, [], ◌∷◌}
-use Prim.Native.Nat.{ℕ, zero, suc, ◌+◌, ◌-◌, ◌<◌}
+use Prim.Native.Nat.{ℕ, zero, suc, ◌+◌, ◌-◌, ◌≤◌, ◌<◌}
 use native.Mathlib.Omega.{arith}
-use lib.ListN.{length, get_or, get_or-eq_default}
+use native.Mathlib.Numerals.{add-one}
+use lib.ListN.{length, get_or, drop, drop_of_length-le, get_or-eq_default}
+use lib.Seq.{drop-cons}
 use Rattle.laws.specs.Choice.{pick}
 use Rattle.laws.specs.Sums.{only}
+use Rattle.laws.proofs.Only.{only_le}
 use Rattle.form.specs.Bytes.{line_feed, is_line_feed}
 use Rattle.form.specs.Parts.{count}
-use Rattle.form.specs.Text.{is_unfinished}
+use Rattle.form.specs.Text.{finished_lines, is_unfinished}
 use Rattle.form.proofs.Parts.{count_nil, count_cons}
 
-count_by_cons : (passes : ℕ → Bool) (b : ℕ) (s : List ℕ) → count_by passes (b ∷ s) ≡ cond (passes b) 1 0 + count_by passes s
-count_by_cons passes b s = grind (arith, common_steps)
+-- so many are found before place i
+pub record Counting (text : List ℕ) (lines i : ℕ) : Type 0 where
+  pub inside : i ≤ length text
+  pub few : lines ≤ i
+  pub rest : finished_lines text ≡ lines + count is_line_feed (drop i text)
 
--- as an iterator counts them
-pub count_is_by : (passes : ℕ → Bool) (s : List ℕ) → count passes s ≡ count_by passes s
-count_is_by passes [] = count_nil passes
-count_is_by passes (b ∷ s) = count_cons passes b s ∙ step (passes b) (count_is_by passes s) ∙ sym (count_by_cons passes b s)
-  where
-    step : (x : Bool) → count passes s ≡ count_by passes s → only x 1 + count passes s ≡ cond x 1 0 + count_by passes s
-    step true e = ap (λ (n : ℕ). 1 + n) e
-    step false e = ap (λ (n : ℕ). 0 + n) e
+pub counting_first : (text : List ℕ) → Counting text 0 0
+counting_first text = record { inside = omega arith; few = omega arith; rest = omega arith }
+
+pub counting_more : (text : List ℕ) (lines i : ℕ) (feed : Bool) → Counting text lines i → i < length text → is_line_feed (get_or text i 0) ≡ feed → Counting text (lines + only feed 1) (i + 1)
+counting_more text lines i feed c more e =
+    let cut : count is_line_feed (drop i text) ≡ only feed 1 + count is_line_feed (drop (i + 1) text) =
+    ap (count is_line_feed) (drop-cons text i 0 more) ∙ count_cons is_line_feed (get_or text i 0) (drop (suc i) text)
+    ∙ ap (λ (b : Bool). only b 1 + count is_line_feed (drop (suc i) text)) e ∙ ap (λ (n : ℕ). only feed 1 + count is_line_feed (drop n text)) (sym (add-one i)) in
+    record { inside = omega (arith, more); few = omega (arith, c.few, only_le feed 1); rest = omega (arith, c.rest, cut) }
+
+pub counting_last : (text : List ℕ) (lines i : ℕ) → Counting text lines i → length text ≤ i → (lines ≡ finished_lines text) × (lines ≤ length text)
+counting_last text lines i c past =
+    let none : count is_line_feed (drop i text) ≡ 0 = ap (count is_line_feed) (drop_of_length-le text past) ∙ count_nil is_line_feed in
+    (omega (arith, c.rest, none), omega (arith, c.few, c.inside))
 
 -- within a list nothing else is asked for
 within_list : (l : List ℕ) (i one other : ℕ) → i < length l → get_or l i one ≡ get_or l i other

@@ -64,16 +64,17 @@ impl<'a> Reader<'a> {
         ensures digits { TakesDigits (drop self.old.at self.old.text.now) self.old.at result self.new.at }
         ensures text { self.new.text ≡ self.old.text }
     {
+        let text = self.text;
         let mut value: u32 = 0;
-        for next in self.at..self.text.len() {
-            let byte = self.text[next];
+        for next in self.at..text.len() {
+            let byte = text[next];
             if !is_digit(byte) {
                 self.at = next;
                 return value;
             }
             value = with_digit(value, byte);
         }
-        self.at = self.text.len();
+        self.at = text.len();
         value
     }
 

@@ -11,13 +11,10 @@ use Rattle.typed.proofs.reader.Reader.take_digits.Goals as goal
 pub loop-next-init : goal.loop-next-init
 loop-next-init c = let reader = c.args.self.now in (refl, taking_first _ _ reader.inside)
 
-pub bounds-self-next : goal.bounds-self-next
-bounds-self-next c = rw c.loop-next.invariant.0 c.loop-next-test.true
-
 pub returns-then-not-is_digit-clause-digits : goal.returns-then-not-is_digit-clause-digits
 returns-then-not-is_digit-clause-digits c =
     let l = c.loop-next in
-    let stopped = rw l.invariant.0 at (sym c.is_digit.ensures ∙ c.if-not-is_digit.true) in
+    let stopped = sym c.is_digit.ensures ∙ c.if-not-is_digit.true in
     taking_last _ _ _ _ l.invariant.1 (digits_stopped c.args.self.now.text.now l.next stopped)
 
 pub returns-then-not-is_digit-clause-text : goal.returns-then-not-is_digit-clause-text
@@ -27,9 +24,9 @@ pub loop-next-preserved : goal.loop-next-preserved
 loop-next-preserved c =
     let l = c.loop-next in
     let reader = c.args.self.now in
-    let digit = rw l.invariant.0 at (sym c.is_digit.ensures ∙ c.if-not-is_digit.false) in
+    let digit = sym c.is_digit.ensures ∙ c.if-not-is_digit.false in
     let step = taking_more reader.text.now reader.at l.value l.next l.invariant.1 c.loop-next-test.true digit in
-    let worth = rw l.invariant.0 at c.with_digit-value.ensures in
+    let worth = c.with_digit-value.ensures in
     (l.invariant.0, subst (λ (v : ℕ). Taking reader.text.now reader.at v (l.next + 1)) (sym worth) step)
 
 pub returns-clause-digits : goal.returns-clause-digits
@@ -38,7 +35,7 @@ returns-clause-digits c =
     let t = reader.text.now in
     let l = c.loop-next in
     let end : l.next ≡ length t = omega (arith, l.invariant.1.inside, c.loop-next-test.false) in
-    rw l.invariant.0 (subst (λ (n : ℕ). TakesDigits (drop reader.at t) reader.at l.value n) end (taking_last _ _ _ _ l.invariant.1 (digits_past _ _ c.loop-next-test.false)))
+    subst (λ (n : ℕ). TakesDigits (drop reader.at t) reader.at l.value n) end (taking_last _ _ _ _ l.invariant.1 (digits_past _ _ c.loop-next-test.false))
 
 pub returns-clause-text : goal.returns-clause-text
 returns-clause-text c = ap (λ (reader : Reader). reader.text) c.loop-next.invariant.0
