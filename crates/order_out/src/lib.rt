@@ -54,9 +54,9 @@ impl Record for TaskRecord {
 }
 
 // An order's bytes into the front of out.
-fn put_order(out: &mut [u8], order: Order)
-    requires { OrderFits order × (order_length 1 order.tasks ≤ length out.old) }
-    ensures { out.new ≡ order_bytes order ++ drop (order_length 1 order.tasks) out.old }
+fn put_order(out: &mut [u8], order: &Order)
+    requires { OrderFits order.now × (order_length 1 order.now.tasks ≤ length out.old) × (length order.now.table ≡ most_tasks) }
+    ensures { out.new ≡ order_bytes order.now ++ drop (order_length 1 order.now.tasks) out.old }
 {
     put_header(out, order.processors, order.tasks);
     put_records::<TaskRecord>(
@@ -66,9 +66,9 @@ fn put_order(out: &mut [u8], order: Order)
 }
 
 // An order that fits its fields, where there is room for it: 12.
-fn put_if_room(order: Order, out: &mut [u8]) -> Result<u32, Refusal>
-    requires { OrderFits order }
-    ensures { PutIfRoom order out.old result out.new }
+fn put_if_room(order: &Order, out: &mut [u8]) -> Result<u32, Refusal>
+    requires { OrderFits order.now × (length order.now.table ≡ most_tasks) }
+    ensures { PutIfRoom order.now out.old result out.new }
 {
     let size = Order::bytes(order.tasks as usize);
     if out.len() < size {
@@ -89,7 +89,7 @@ pub fn write(order: Order, out: &mut [u8]) -> Result<u32, Refusal>
         return Err(Refusal::OfOrder(OrderCause::Tasks));
     }
     order.judge()?;
-    put_if_room(order, out)
+    put_if_room(&order, out)
 }
 
 // Four columns, a row of them for each task.

@@ -1,4 +1,5 @@
 use mathlib.Core.Path.{sym, ◌∙◌}
+use native.Mathlib.Omega.{arith}
 use lib.ListN.{length}
 use Rattle.laws.proofs.Choice.{within_true}
 use Rattle.model.specs.Limits.{most_tasks, most_processors}
@@ -46,7 +47,7 @@ put_if_room-requires c =
     let processors-in = contained c.new.result c.args.order.processors c.new.ensures.start c.new.ensures.end c.new.ensures.exhausted c.if-not-contains.ensures.value in
     let tasks-in = contained c.new-2.result c.args.order.tasks c.new-2.ensures.start c.new-2.ensures.end c.new-2.ensures.exhausted c.if-not-contains-2.ensures.value in
     let judged = done_given tt _ (sym c.judge.ensures ∙ c.in_ok-judge.was) in
-    order_fits _ (within_true 1 most_processors _ processors-in).1 (within_true 1 most_tasks _ tasks-in).1 (done_pass 0 _ judged.1)
+    (order_fits _ (within_true 1 most_processors _ processors-in).1 (within_true 1 most_tasks _ tasks-in).1 (done_pass 0 _ judged.1), omega arith)
 
 pub returns : goal.returns
 returns c =
