@@ -1,6 +1,8 @@
 // Runs cases that the second program wrote: a line each with the answer, and all that the output then holds.
 #![tactic(auto)]
 
+ghost use Rattle.std.specs.Prelude.{◌≤◌, length};
+
 use show::read_full;
 use std::io;
 use std::io::Read;
@@ -72,9 +74,18 @@ fn show_case<T: Number>(rt: &impl Print, call: &[u8], word: u64, out: &[T]) -> i
 }
 
 // 0 past the end of the input.
+fn next_byte(input: &mut impl Read) -> u8 {
+    let mut byte = [0u8; 1];
+    read_full(input, &mut byte);
+    byte[0]
+}
+
+// Byte by byte: a terminal's input may go on behind an end.
 fn next<const N: usize>(input: &mut impl Read) -> [u8; N] {
     let mut bytes = [0u8; N];
-    read_full(input, &mut bytes);
+    for i in 0..N {
+        bytes[i] = next_byte(input);
+    }
     bytes
 }
 
@@ -83,7 +94,9 @@ fn next_word(input: &mut impl Read) -> u32 {
 }
 
 // A length, then so much of the room; none of it where there is less.
-fn next_room<'a, T>(input: &mut impl Read, room: &'a mut [T]) -> &'a mut [T] {
+fn next_room<'a, T>(input: &mut impl Read, room: &'a mut [T]) -> &'a mut [T]
+    ensures { length result.now ≤ length room.old }
+{
     let size = usize::from(u16::from_be_bytes(next(input)));
     if size <= room.len() {
         &mut room[..size]
@@ -93,14 +106,18 @@ fn next_room<'a, T>(input: &mut impl Read, room: &'a mut [T]) -> &'a mut [T] {
 }
 
 // A length, then so many bytes; only those that are there.
-fn next_bytes<'a>(input: &mut impl Read, room: &'a mut [u8]) -> &'a [u8] {
+fn next_bytes<'a>(input: &mut impl Read, room: &'a mut [u8]) -> &'a [u8]
+    ensures { length result.now ≤ length room.old }
+{
     let bytes = next_room(input, room);
     let size = read_full(input, bytes);
     &bytes[..size]
 }
 
 // A length, then so many numbers of four bytes.
-fn next_column<'a>(input: &mut impl Read, room: &'a mut [u32]) -> &'a [u32] {
+fn next_column<'a>(input: &mut impl Read, room: &'a mut [u32]) -> &'a [u32]
+    ensures { length result.now ≤ length room.old }
+{
     let column = next_room(input, room);
     for number in column.iter_mut() {
         *number = next_word(input);
