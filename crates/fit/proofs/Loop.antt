@@ -16,13 +16,13 @@ use Rattle.fitting.specs.declared.Placing.{Placing}
 use Rattle.fitting.specs.Steps.{nothing_placed, told, turn_taken, turns_taken, first_fit}
 use Rattle.fitting.proofs.Turning.{told_on, steps_none, steps_on, steps_end}
 use Rattle.fitting.proofs.Claims.{start}
-use Rattle.placing.specs.declared.Line.{Line}
+use Rattle.placing.specs.declared.TaskLine.{TaskLine}
 use Rattle.placing.specs.Known.{no_line}
 use Rattle.fit.specs.Taking.{Lines, Taken, AllTaken}
 
 module _ (o : Order) (limits : WithinLimits o) where
   -- what is known between turns: the lines, and what the other turns come to
-  pub record Between (s : Placing) (line : Line) : Type 0 where
+  pub record Between (s : Placing) (line : TaskLine) : Type 0 where
     pub upto : line.placed ≤ o.tasks
     pub lines : Lines o s line
     pub others : turns_taken o (o.tasks - line.placed) s ≡ first_fit o
@@ -31,10 +31,10 @@ module _ (o : Order) (limits : WithinLimits o) where
   unfolding is_unplaced
   waits j l = ap (λ (home : Option ℕ). is_none home) (get_or_alike most_tasks j None)
 
-  pub at_first : (s : Placing) (line : Line) → s ≡ nothing_placed → line ≡ no_line → Between s line
+  pub at_first : (s : Placing) (line : TaskLine) → s ≡ nothing_placed → line ≡ no_line → Between s line
   unfolding first_fit
   at_first s line e none =
-      subst (λ (x : Line). Between s x) (sym none)
+      subst (λ (x : TaskLine). Between s x) (sym none)
       (subst (λ (x : Placing). Between x no_line) (sym e)
       (record {
         upto = omega arith;
@@ -55,7 +55,7 @@ module _ (o : Order) (limits : WithinLimits o) where
         others = ap (λ (k : ℕ). turns_taken o k nothing_placed) (omega arith);
       }))
 
-  module _ (s : Placing) (line : Line) (is : Between s line) where
+  module _ (s : Placing) (line : TaskLine) (is : Between s line) where
     pub all_done : o.tasks ≤ line.placed → AllTaken o (Ok s) line
     all_done le =
         let all : line.placed ≡ o.tasks = omega (arith, is.upto) in
@@ -66,7 +66,7 @@ module _ (o : Order) (limits : WithinLimits o) where
           all = λ t done. all;
         }
 
-    module _ (early : line.placed < o.tasks) (r : Result Placing Refusal) (after : Line) (taken : Taken o s line r after) where
+    module _ (early : line.placed < o.tasks) (r : Result Placing Refusal) (after : TaskLine) (taken : Taken o s line r after) where
       left : o.tasks - line.placed ≡ suc (o.tasks - (line.placed + 1))
       left = omega arith
 

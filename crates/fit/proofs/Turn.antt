@@ -34,12 +34,12 @@ use Rattle.fitting.proofs.Put.{one_waits, put_here, put_other, put_placed, put-u
 use Rattle.fitting.proofs.Standing.{stands_accepted, stands_opened, alone_there}
 use Rattle.fitting.proofs.Turning.{widths, step-put, step_open, step_refuse, opening_new, opening_none}
 use Rattle.trial.specs.declared.Results.{Results}
-use Rattle.placing.specs.declared.Line.{Line}
+use Rattle.placing.specs.declared.TaskLine.{TaskLine}
 use Rattle.placing.specs.Known.{OpenUntil, Known, InLine, seated, Trying, Lowest}
 use Rattle.placing.proofs.Beside.{open_more}
 use Rattle.fit.specs.Taking.{Lines, Taking, Taken}
 
-module _ (o : Order) (table : Rows) (s : Placing) (line : Line) (t : Taking o table s line) where
+module _ (o : Order) (table : Rows) (s : Placing) (line : TaskLine) (t : Taking o table s line) where
   abbrev keys : List ℕ
   keys = line.keys
 
@@ -58,7 +58,7 @@ module _ (o : Order) (table : Rows) (s : Placing) (line : Line) (t : Taking o ta
   pub few_tasks : o.tasks ≤ 32
   few_tasks = t.limits.tasks.1
 
-  pub idle_turn : (r : Result Placing Refusal) → next_task o homes o.tasks ≡ None → (after : Line) → Taken o s line r after
+  pub idle_turn : (r : Result Placing Refusal) → next_task o homes o.tasks ≡ None → (after : TaskLine) → Taken o s line r after
   idle_turn r none after =
       let one = one_waits homes o.tasks (omega (arith, t.lines.stands.numbered.count, t.early)) in
       clash (sym (none_next o homes o.tasks none one.0 one.1) ∙ one.2)
@@ -126,7 +126,7 @@ module _ (o : Order) (table : Rows) (s : Placing) (line : Line) (t : Taking o ta
       keys_then = ap (λ (xs : List ℕ). length xs) put_in ∙ length-overlaid (with_key key keys placed) keys (placed + 1) (omega (arith, t.lines.key_places, t.early, few_tasks)) ∙ t.lines.key_places
 
     -- the line with the task in its place, and what is known then
-    abbrev line_with : (key : ℕ) (results : Results ℕ) → Line
+    abbrev line_with : (key : ℕ) (results : Results ℕ) → TaskLine
     line_with key results = record { keys = overlaid (with_key key keys placed) (placed + 1) keys; placed = placed + 1; results = results }
 
     -- a task alone responds in its own cost
@@ -134,7 +134,7 @@ module _ (o : Order) (table : Rows) (s : Placing) (line : Line) (t : Taking o ta
     lone_response results = record { lasts = results.lasts; worsts = set results.worsts i (cost_at table i) }
 
     -- an open partition takes it
-    pub seated_there : (k key : ℕ) (found : Option ℕ) (tried after : Line) (r : Result Placing Refusal) → Lowest table line i trying s.opened found tried → found ≡ Some k
+    pub seated_there : (k key : ℕ) (found : Option ℕ) (tried after : TaskLine) (r : Result Placing Refusal) → Lowest table line i trying s.opened found tried → found ≡ Some k
         → key ≡ key_of k (deadline_at table i) i → after ≡ seated tried key → r ≡ Ok (put s i k) → Taken o s line r after
     unfolding lowest_accepting
     seated_there k key found tried after r is at key_is put_in e =
@@ -235,21 +235,21 @@ module _ (o : Order) (table : Rows) (s : Placing) (line : Line) (t : Taking o ta
       ]
 
     -- what was found is an opened partition
-    pub found_few : (k : ℕ) (found : Option ℕ) (tried : Line) → Lowest table line i trying s.opened found tried → found ≡ Some k → k < 32
+    pub found_few : (k : ℕ) (found : Option ℕ) (tried : TaskLine) → Lowest table line i trying s.opened found tried → found ≡ Some k → k < 32
     found_few k found tried is at =
         let first = subst (Firstly (accepts o homes i) s.opened) (sym is.answer ∙ at) (first_says (accepts o homes i) s.opened) in
         omega (arith, first.below, opened_few)
 
     -- the line has room for it still
-    pub room_there : (found : Option ℕ) (tried : Line) → Lowest table line i trying s.opened found tried → (tried.placed < most_tasks) × (length tried.keys ≡ most_tasks)
+    pub room_there : (found : Option ℕ) (tried : TaskLine) → Lowest table line i trying s.opened found tried → (tried.placed < most_tasks) × (length tried.keys ≡ most_tasks)
     room_there found tried is = (omega (arith, is.same_line.1, t.early, few_tasks), ap (λ (xs : List ℕ). length xs) is.same_line.0 ∙ t.lines.key_places)
 
     -- none takes it, as the search leaves what is known
-    pub none_takes : (key : ℕ) (found : Option ℕ) (tried after : Line) (r : Result Placing Refusal) → Lowest table line i trying s.opened found tried → found ≡ None
+    pub none_takes : (key : ℕ) (found : Option ℕ) (tried after : TaskLine) (r : Result Placing Refusal) → Lowest table line i trying s.opened found tried → found ≡ None
         → key ≡ key_of s.opened (deadline_at table i) i → after ≡ seated (record { keys = tried.keys; placed = tried.placed; results = lone_response tried.results }) key
         → r ≡ told (opening o s i) → Taken o s line r after
     unfolding lowest_accepting
     none_takes key found tried after r is none key_is put_in e =
         let here : after ≡ line_with key (lone_response line.results) =
-        put_in ∙ ap (λ (x : Line). seated (record { keys = x.keys; placed = x.placed; results = lone_response x.results }) key) (is.refused none) in
+        put_in ∙ ap (λ (x : TaskLine). seated (record { keys = x.keys; placed = x.placed; results = lone_response x.results }) key) (is.refused none) in
         subst (Taken o s line r) (sym here) (alone_seated (set worsts i (cost_at table i)) refl key found r is.answer none key_is e)

@@ -28,11 +28,11 @@ use Rattle.roster.proofs.Lining.{home_there, homes_rise, lined_part, lives_here,
 use Rattle.turns.specs.Turns.{Homes, home_at, is_unplaced}
 use Rattle.fitting.specs.Steps.{living_in}
 use Rattle.fitting.proofs.Put.{none_waits}
-use Rattle.placing.specs.declared.Line.{Line}
+use Rattle.placing.specs.declared.TaskLine.{TaskLine}
 use Rattle.fit.specs.Recorded.{recorded_as}
 use Rattle.fit.specs.Taking.{Recording}
 
-module _ (line : Line) where
+module _ (line : TaskLine) where
   abbrev keys : List ℕ
   keys = line.keys
 
@@ -172,7 +172,7 @@ module _ (line : Line) where
     pub number_known : (r : ℕ) → r < tasks → number_at keys r < o.tasks
     number_known r l = in_line.within r l
 
-module _ (line : Line) (so : Recording line) where
+module _ (line : TaskLine) (so : Recording line) where
   module _ (members : List Member) (first home place first' : ℕ) (is : Filling line members first home place) (l : place < line.placed)
       (e : first' ≡ pick (eqb (home_in (key_at line.keys place)) home) first place) where
     abbrev number : ℕ

@@ -6,10 +6,10 @@ ghost use Rattle.fit.specs.Taking.{Recording, RecordsOf};
 
 use crate::taking;
 use model::{Build, Member, Order, Refusal};
-use placing::Line;
+use placing::TaskLine;
 
 // Each task's record, zero past them.
-fn records_of(line: &Line) -> [Member; Order::MOST_TASKS]
+fn records_of(line: &TaskLine) -> [Member; Order::MOST_TASKS]
     requires { Recording line.now }
     ensures { (so : Recording line.now) → RecordsOf line.now so result }
 {
@@ -37,7 +37,7 @@ pub fn first_fit(order: Order) -> Result<Build, Refusal>
     requires { WithinLimits order }
     ensures { FitsFirst order result }
 {
-    let mut line = Line::empty();
+    let mut line = TaskLine::empty();
     let placing = taking::take_turns(&order, &mut line)?;
     let places = placing.places;
     let members = records_of(&line);

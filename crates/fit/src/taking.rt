@@ -3,13 +3,12 @@ ghost use Rattle.std.specs.Prelude.{◌≡◌, ◌≤◌, ◌<◌};
 ghost use Rattle.model.specs.Limits.{most_tasks, most_partitions, most_processors};
 ghost use Rattle.model.specs.Rules.{WithinLimits};
 ghost use Rattle.fitting.specs.Steps.{opening, told};
-ghost use Rattle.placing.specs.Known.{no_line};
 ghost use Rattle.fit.specs.Taking.{Taking, Taken, AllTaken};
 
 use asked::Rows;
 use fitting::Placing;
 use model::{CallCause, Order, Refusal};
-use placing::Line;
+use placing::TaskLine;
 
 // A new partition for the task if so many processors are left, else its refusal.
 fn open_for(order: &Order, placing: &Placing, task: usize) -> Result<Placing, Refusal>
@@ -28,7 +27,7 @@ fn take_turn(
     order: &Order,
     table: &Rows,
     placing: &Placing,
-    line: &mut Line,
+    line: &mut TaskLine,
 ) -> Result<Placing, Refusal>
     requires { Taking order.now table.now placing.now line.old }
     ensures { Taken order.now placing.now line.old result line.new }
@@ -47,12 +46,13 @@ fn take_turn(
 }
 
 // A turn for each task, or until one is refused; the line that they come to stand in.
-pub fn take_turns(order: &Order, line: &mut Line) -> Result<Placing, Refusal>
-    requires { WithinLimits order.now × (line.old ≡ no_line) }
+pub fn take_turns(order: &Order, line: &mut TaskLine) -> Result<Placing, Refusal>
+    requires { WithinLimits order.now }
     ensures { AllTaken order.now result line.new }
 {
     let table = roster::row_table(*order);
     let mut placing = Placing::nothing();
+    *line = TaskLine::empty();
     for _ in 0..order.tasks {
         placing = take_turn(order, &table, &placing, line)?;
     }

@@ -15,11 +15,11 @@ use Rattle.roster.specs.Lined.{PartFrom}
 use Rattle.roster.proofs.Lining.{part_next}
 use Rattle.turns.specs.Turns.{home_at}
 use Rattle.fitting.specs.Steps.{accepts}
-use Rattle.placing.specs.declared.Line.{Line}
+use Rattle.placing.specs.declared.TaskLine.{TaskLine}
 use Rattle.placing.specs.Known.{Known, Trying, TryingIn, TriedIn, Lowest}
 
-module _ (table : Rows) (before : Line) (task : ℕ) where
-  pub record Sought (line : Line) (first partition : ℕ) : Type 0 where
+module _ (table : Rows) (before : TaskLine) (task : ℕ) where
+  pub record Sought (line : TaskLine) (first partition : ℕ) : Type 0 where
     pub kept : line ≡ before
     pub members : PartFrom before.keys before.placed first partition
     pub none : (so : Trying table before task) → (k : ℕ) → k < partition → accepts so.order so.homes task k ≡ false
@@ -40,13 +40,13 @@ module _ (table : Rows) (before : Line) (task : ℕ) where
         members = members;
       }
 
-  module _ (line : Line) (first partition key : ℕ) (was : Sought line first partition) (few : partition < 32) (e : key ≡ key_of partition (deadline_at table task) task) where
+  module _ (line : TaskLine) (first partition key : ℕ) (was : Sought line first partition) (few : partition < 32) (e : key ≡ key_of partition (deadline_at table task) task) where
     pub next_trying : Trying table before task → TryingIn table line first key
-    next_trying so = subst (λ (x : Line). TryingIn table x first key) (sym was.kept) (trying_in first partition key so was.members few e)
+    next_trying so = subst (λ (x : TaskLine). TryingIn table x first key) (sym was.kept) (trying_in first partition key so was.members few e)
 
-    module _ (r : Result (Unit {0}) ℕ) (after : Line) (tried : (so : TryingIn table line first key) → TriedIn table line first key so r after) where
+    module _ (r : Result (Unit {0}) ℕ) (after : TaskLine) (tried : (so : TryingIn table line first key) → TriedIn table line first key so r after) where
       is : (so : Trying table before task) → TriedIn table before first key (trying_in first partition key so was.members few e) r after
-      is so = subst (λ (x : Line). (y : TryingIn table x first key) → TriedIn table x first key y r after) was.kept tried (trying_in first partition key so was.members few e)
+      is so = subst (λ (x : TaskLine). (y : TryingIn table x first key) → TriedIn table x first key y r after) was.kept tried (trying_in first partition key so was.members few e)
 
       -- this one takes it
       pub found_here : (opened : ℕ) → partition < opened → r ≡ Ok tt → (so : Trying table before task) → Lowest table before task so opened (Some partition) after
@@ -70,11 +70,11 @@ module _ (table : Rows) (before : Line) (task : ℕ) where
             ];
           }
 
-  pub found_nowhere : (line : Line) (first partition opened : ℕ) → Sought line first partition → opened ≤ partition → (so : Trying table before task) → Lowest table before task so opened None line
+  pub found_nowhere : (line : TaskLine) (first partition opened : ℕ) → Sought line first partition → opened ≤ partition → (so : Trying table before task) → Lowest table before task so opened None line
   found_nowhere line first partition opened was le so =
       record {
         answer = sym (first_missing (accepts so.order so.homes task) opened (λ k l. was.none so k (omega arith)));
-        same_line = (ap (λ (x : Line). x.keys) was.kept, ap (λ (x : Line). x.placed) was.kept);
+        same_line = (ap (λ (x : TaskLine). x.keys) was.kept, ap (λ (x : TaskLine). x.placed) was.kept);
         taken = λ k f. absurd (cc f);
         refused = λ f. was.kept;
       }

@@ -20,11 +20,11 @@ use Rattle.roster.specs.Lined.{part_size}
 use Rattle.roster.proofs.Lining.{home_of_key}
 use Rattle.roster.proofs.Runs.{run_most}
 use Rattle.fitting.specs.Steps.{accepts}
-use Rattle.placing.specs.declared.Line.{Line}
+use Rattle.placing.specs.declared.TaskLine.{TaskLine}
 use Rattle.placing.specs.Known.{TryingIn, TriedIn}
 use Rattle.placing.proofs.Beside.{newcomer_in, fit, before, answer_is, known_now}
 
-module _ (table : Rows) (line : Line) (first key : ℕ) (so : TryingIn table line first key) where
+module _ (table : Rows) (line : TaskLine) (first key : ℕ) (so : TryingIn table line first key) where
   abbrev keys : List ℕ
   keys = line.keys
 
@@ -84,7 +84,7 @@ module _ (table : Rows) (line : Line) (first key : ℕ) (so : TryingIn table lin
         )
 
     -- the line with what the trial found
-    abbrev tested : (results' : Results ℕ) → Line
+    abbrev tested : (results' : Results ℕ) → TaskLine
     tested results' = record { keys = keys; placed = placed; results = results' }
 
     answer_of : (passes : Bool) (results' : Results ℕ) → TriedAs rows own₂ (size + 1) results passes results' → passes ≡ accepts o so.trying.homes i k

@@ -17,7 +17,7 @@ use Rattle.turns.specs.Turns.{Homes, unplaced, home_at, is_unplaced}
 use Rattle.fitting.specs.Steps.{living_in, accepts}
 use Rattle.trial.specs.Known.{no_results}
 use Rattle.trial.specs.declared.Results.{Results}
-use Rattle.placing.specs.declared.Line.{Line}
+use Rattle.placing.specs.declared.TaskLine.{TaskLine}
 
 -- no window of member i closes before a tick
 abbrev pub OpenUntil : Order → Members → (i last : ℕ) → Type 0
@@ -38,15 +38,15 @@ abbrev pub InLine : Order → (homes : Homes) (keys : List ℕ) → (placed : �
 InLine o homes keys placed = Lined o (λ j. not (is_unplaced homes j)) (home_at homes) keys placed
 
 -- nobody is placed
-abbrev pub no_line : Line
+abbrev pub no_line : TaskLine
 no_line = record { keys = replicate most_tasks 0; placed = 0; results = no_results 0 }
 
 -- one more in line, by its key
-abbrev pub seated : Line → (key : ℕ) → Line
+abbrev pub seated : TaskLine → (key : ℕ) → TaskLine
 seated line key = record { keys = overlaid (with_key key line.keys line.placed) (line.placed + 1) line.keys; placed = line.placed + 1; results = line.results }
 
 -- a waiting task is to be tried
-pub record Trying (table : Rows) (line : Line) (task : ℕ) : Type 0 where
+pub record Trying (table : Rows) (line : TaskLine) (task : ℕ) : Type 0 where
   pub order : Order
   pub limits : WithinLimits order
   pub homes : Homes
@@ -59,7 +59,7 @@ pub record Trying (table : Rows) (line : Line) (task : ℕ) : Type 0 where
   pub known : Known order homes line.results
 
 -- in partition k, by its key there, beside the members from a place of the line on
-pub record TryingIn (table : Rows) (line : Line) (first key : ℕ) : Type 0 where
+pub record TryingIn (table : Rows) (line : TaskLine) (first key : ℕ) : Type 0 where
   pub task : ℕ
   pub partition : ℕ
   pub few : partition < 32
@@ -68,7 +68,7 @@ pub record TryingIn (table : Rows) (line : Line) (first key : ℕ) : Type 0 wher
   pub members : PartFrom line.keys line.placed first partition
 
 -- what comes of it: the line stands as it did, and where the task is not taken nothing has changed
-pub record TriedIn (table : Rows) (line : Line) (first key : ℕ) (so : TryingIn table line first key) (r : Result (Unit {0}) ℕ) (after : Line) : Type 0 where
+pub record TriedIn (table : Rows) (line : TaskLine) (first key : ℕ) (so : TryingIn table line first key) (r : Result (Unit {0}) ℕ) (after : TaskLine) : Type 0 where
   pub same_line : (after.keys ≡ line.keys) × (after.placed ≡ line.placed)
   pub takes : r ≡ Ok tt → accepts so.trying.order so.trying.homes so.task so.partition ≡ true
   pub taken : r ≡ Ok tt → Known so.trying.order (set so.trying.homes so.task (Some so.partition)) after.results
@@ -77,7 +77,7 @@ pub record TriedIn (table : Rows) (line : Line) (first key : ℕ) (so : TryingIn
   pub members : (size : ℕ) → r ≡ Err size → size ≡ part_size line.keys line.placed first so.partition
 
 -- what comes of it where all opened partitions are tried in turn
-pub record Lowest (table : Rows) (line : Line) (task : ℕ) (so : Trying table line task) (opened : ℕ) (r : Option ℕ) (after : Line) : Type 0 where
+pub record Lowest (table : Rows) (line : TaskLine) (task : ℕ) (so : Trying table line task) (opened : ℕ) (r : Option ℕ) (after : TaskLine) : Type 0 where
   pub answer : r ≡ first_of (accepts so.order so.homes task) 0 opened
   pub same_line : (after.keys ≡ line.keys) × (after.placed ≡ line.placed)
   pub taken : (k : ℕ) → r ≡ Some k → Known so.order (set so.homes task (Some k)) after.results

@@ -12,13 +12,13 @@ use trial::Results;
 
 // The placed tasks: their keys in line, how many they are, and by number what their tests gave.
 #[derive(Clone, Copy)]
-pub struct Line {
+pub struct TaskLine {
     pub keys: [u32; Order::MOST_TASKS],
     pub placed: usize,
     pub results: Results<u32>,
 }
 
-impl Line {
+impl TaskLine {
     // No task is placed.
     pub fn empty() -> Self
         ensures { result ≡ no_line }

@@ -1,11 +1,11 @@
 use Rattle.std.proofs.Common.{arith, ap, ◌∙◌, ◌+◌}
 use Rattle.model.proofs.Rules.{handed_on}
-use Rattle.placing.specs.declared.Line.{Line}
+use Rattle.placing.specs.declared.TaskLine.{TaskLine}
 use Rattle.fit.proofs.Loop.{at_first, all_done, one_refused, one_more}
 use Rattle.fit.proofs.taking.take_turns.Goals as goal
 
 pub loop-init : goal.loop-init
-loop-init c = (c.requires.0, at_first _ c.requires.0 _ _ c.nothing-placing.ensures c.requires.1, ap (λ (x : Line). x.placed) c.requires.1)
+loop-init c = (c.requires, at_first _ c.requires _ _ c.nothing-placing.ensures c.empty.ensures, ap (λ (x : TaskLine). x.placed) c.empty.ensures)
 
 pub take_turn-requires : goal.take_turn-requires
 take_turn-requires c =

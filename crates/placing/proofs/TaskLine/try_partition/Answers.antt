@@ -8,13 +8,13 @@ use Rattle.laws.proofs.Overlaid.{length-overlaid}
 use Rattle.asked.specs.declared.rows.Rows.{Rows}
 use Rattle.roster.specs.Keys.{home_in, lives_in, run_from}
 use Rattle.roster.specs.Rows.{RowPlaces}
-use Rattle.placing.specs.declared.Line.{Line}
+use Rattle.placing.specs.declared.TaskLine.{TaskLine}
 use Rattle.placing.specs.Known.{TryingIn}
 use Rattle.placing.proofs.Stage.{size_is, size_small, ready, told_takes, told_refuses}
-use Rattle.placing.proofs.Line.try_partition.Goals as goal
+use Rattle.placing.proofs.TaskLine.try_partition.Goals as goal
 
 -- how many members the partition has
-small : (table : Rows) (line : Line) (first key : ℕ) → TryingIn table line first key → (home size : ℕ)
+small : (table : Rows) (line : TaskLine) (first key : ℕ) → TryingIn table line first key → (home size : ℕ)
     → home ≡ home_in key → size ≡ run_from (lives_in home line.keys) first (line.placed - first) → size < most_tasks
 small table line first key so home size e f = omega (arith, size_is table line first key so home size e f, size_small table line first key so)
 

@@ -1,6 +1,6 @@
 use Rattle.std.proofs.Common.{arith}
 use Rattle.placing.proofs.Seeking.{next_trying, found_here, not_here, found_nowhere}
-use Rattle.placing.proofs.Line.lowest_accepting.Goals as goal
+use Rattle.placing.proofs.TaskLine.lowest_accepting.Goals as goal
 
 pub try_partition-requires : goal.try_partition-requires
 try_partition-requires c =
