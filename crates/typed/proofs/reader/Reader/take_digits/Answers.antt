@@ -30,12 +30,7 @@ loop-next-preserved c =
     (l.invariant.0, subst (λ (v : ℕ). Taking reader.text.now reader.at v (l.next + 1)) (sym worth) step)
 
 pub returns-clause-digits : goal.returns-clause-digits
-returns-clause-digits c =
-    let reader = c.args.self.now in
-    let t = reader.text.now in
-    let l = c.loop-next in
-    let end : l.next ≡ length t = omega (arith, l.invariant.1.inside, c.loop-next-test.false) in
-    subst (λ (n : ℕ). TakesDigits (drop reader.at t) reader.at l.value n) end (taking_last _ _ _ _ l.invariant.1 (digits_past _ _ c.loop-next-test.false))
+returns-clause-digits c = let l = c.loop-next in taking_last _ _ _ _ l.invariant.1 (digits_past _ _ c.loop-next-test.false)
 
 pub returns-clause-text : goal.returns-clause-text
 returns-clause-text c = ap (λ (reader : Reader). reader.text) c.loop-next.invariant.0
